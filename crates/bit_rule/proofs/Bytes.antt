@@ -1,0 +1,117 @@
+-- Bytes and numbers: each of `number` and `bytesOf` undoes the other, and a window into a list of bytes is read byte by byte.
+-- All by induction on the list or on the count of bytes.
+use mathlib.Core.Path.{_≡_, refl, sym, ap, ap₂, _∙_, subst}
+use mathlib.Core.List.{List, [], _∷_, _++_}
+use Prim.Native.Nat.{ℕ, zero, suc, _+_, _-_, _*_, _/_, _%_, _^_, _≤_, _<_}
+use native.Mathlib.Nat.{pow-suc, mul-comm, mul-assoc, mod-eq-of-lt, zero-div, zero-mod, div-div-eq-div-mul}
+use native.Mathlib.Numerals.{add-one}
+use native.Mathlib.Omega.{arith}
+use lib.Dec.{lit<}
+use lib.Arith.{mod-mul}
+use lib.Pow as Pow
+use lib.ListN.{length, getD, take, drop}
+use lib.Seq.{take-nil}
+use Rattle.bit_rule.specs.Bytes.{AreBytes, number, bytesOf, bytesFor}
+
+-- a byte is eight bits
+pub pow-bytes : (n : ℕ) → 256 ^ n ≡ 2 ^ (8 * n)
+pow-bytes zero = refl
+pow-bytes (suc n) =
+    pow-suc 256 n
+    ∙ ap (λ x. x * 256) (pow-bytes n)
+    ∙ sym (Pow.pow-add 2 (8 * n) 8)
+    ∙ ap (λ x. 2 ^ x) (omega arith)
+
+pub pow256-pos : (n : ℕ) → 0 < 256 ^ n
+pow256-pos n = subst (λ x. 0 < x) (sym (pow-bytes n)) (Pow.pow-pos (8 * n))
+
+pub tail-bytes : {b : ℕ} (bs : List ℕ) → AreBytes (b ∷ bs) → AreBytes bs
+tail-bytes bs h i = h (suc i)
+
+pub length-bytesOf : (n x : ℕ) → length (bytesOf n x) ≡ n
+unfolding bytesOf
+length-bytesOf zero x = refl
+length-bytesOf (suc n) x = ap suc (length-bytesOf n (x / 256))
+
+pub bytesOf-are-bytes : (n x : ℕ) → AreBytes (bytesOf n x)
+unfolding bytesOf
+bytesOf-are-bytes zero x i = lit< tt
+bytesOf-are-bytes (suc n) x zero = omega arith
+bytesOf-are-bytes (suc n) x (suc i) = bytesOf-are-bytes n (x / 256) i
+
+-- a number cut into n bytes loses what is above them
+pub number-bytesOf : (n x : ℕ) → number (bytesOf n x) ≡ x % 256 ^ n
+unfolding number bytesOf
+number-bytesOf zero x = omega arith
+number-bytesOf (suc n) x =
+    let split = mod-mul x (pow256-pos n) (lit< {m = 0} {n = 256} tt) in
+    ap (λ y. x % 256 + 256 * y) (number-bytesOf n (x / 256)) ∙ omega (arith, split, ap (λ y. x % y) (pow-suc 256 n))
+
+-- and nothing where it is below 256 ^ n
+pub number-of-bytesOf : (n : ℕ) {x : ℕ} → x < 256 ^ n → number (bytesOf n x) ≡ x
+number-of-bytesOf n {x} h = number-bytesOf n x ∙ mod-eq-of-lt h
+
+pub number-lt : (bs : List ℕ) → AreBytes bs → number bs < 256 ^ length bs
+unfolding number
+number-lt [] h = lit< tt
+number-lt (b ∷ bs) h =
+    let tail = number-lt bs (tail-bytes bs h) in
+    let head : b < 256 = h 0 in
+    omega (arith, pow-suc 256 (length bs))
+
+-- bytes are the bytes of their number
+pub bytesOf-number : (bs : List ℕ) → AreBytes bs → bytesOf (length bs) (number bs) ≡ bs
+unfolding number bytesOf
+bytesOf-number [] h = refl
+bytesOf-number (b ∷ bs) h =
+    let head : b < 256 = h 0 in
+    let low : (b + 256 * number bs) % 256 ≡ b = omega arith in
+    let high : (b + 256 * number bs) / 256 ≡ number bs = omega arith in
+    ap₂ (λ x y. x ∷ bytesOf (length bs) y) low high ∙ ap (λ l. b ∷ l) (bytesOf-number bs (tail-bytes bs h))
+
+pub number-append : (xs ys : List ℕ) → number (xs ++ ys) ≡ number xs + 256 ^ length xs * number ys
+unfolding number
+number-append [] ys = omega arith
+number-append (a ∷ xs) ys =
+    let e = ap (λ x. x * number ys) (pow-suc 256 (length xs)) in
+    let f : 256 ^ length xs * 256 * number ys ≡ 256 * (256 ^ length xs * number ys) =
+    ap (λ x. x * number ys) (mul-comm (256 ^ length xs) 256) ∙ mul-assoc 256 (256 ^ length xs) (number ys) in
+    ap (λ x. a + 256 * x) (number-append xs ys) ∙ omega (arith, e, f)
+
+-- Two lists of the same length that stand for the same number are the same bytes.
+pub number-injective : (xs ys : List ℕ) → AreBytes xs → AreBytes ys → length xs ≡ length ys → number xs ≡ number ys → xs ≡ ys
+number-injective xs ys ha hb l e =
+    sym (bytesOf-number xs ha) ∙ ap₂ (λ n x. bytesOf n x) l e ∙ bytesOf-number ys hb
+
+-- A window of n bytes from byte a on, read from its first byte on. Past the end of the list a byte counts xs 0.
+pub window : (n a : ℕ) (xs : List ℕ) → number (take (suc n) (drop a xs)) ≡ getD xs a 0 + 256 * number (take n (drop (suc a) xs))
+unfolding number
+window n zero [] = simp take-nil
+window n zero (x ∷ xs) = refl
+window n (suc a) [] = simp take-nil
+window n (suc a) (x ∷ xs) = window n a xs
+
+-- dropping bytes divides, and taking bytes is a remainder
+pub number-drop : (a : ℕ) (xs : List ℕ) → AreBytes xs → number (drop a xs) ≡ number xs / 256 ^ a
+unfolding number
+number-drop zero xs h = omega arith
+number-drop (suc a) [] h = sym (zero-div (256 ^ suc a))
+number-drop (suc a) (x ∷ xs) h =
+    let head : x < 256 = h 0 in
+    let high : (x + 256 * number xs) / 256 ≡ number xs = omega arith in
+    number-drop a xs (tail-bytes xs h)
+    ∙ ap (λ y. y / 256 ^ a) (sym high)
+    ∙ div-div-eq-div-mul (x + 256 * number xs) 256 (256 ^ a)
+    ∙ ap (λ y. (x + 256 * number xs) / y) (mul-comm 256 (256 ^ a) ∙ sym (pow-suc 256 a))
+
+pub number-take : (n : ℕ) (xs : List ℕ) → AreBytes xs → number (take n xs) ≡ number xs % 256 ^ n
+unfolding number
+number-take zero xs h = omega arith
+number-take (suc n) [] h = sym (zero-mod (256 ^ suc n))
+number-take (suc n) (x ∷ xs) h =
+    let head : x < 256 = h 0 in
+    let low : (x + 256 * number xs) % 256 ≡ x = omega arith in
+    let high : (x + 256 * number xs) / 256 ≡ number xs = omega arith in
+    let split = mod-mul (x + 256 * number xs) (pow256-pos n) (lit< {m = 0} {n = 256} tt) in
+    let rest = ap (λ y. y % 256 ^ n) high in
+    omega (arith, number-take n xs (tail-bytes xs h), split, rest, ap (λ y. (x + 256 * number xs) % y) (pow-suc 256 n))

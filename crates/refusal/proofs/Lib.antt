@@ -1,0 +1,2 @@
+-- The laws of "the first check that holds".
+pub mod First
