@@ -1,0 +1,2 @@
+-- Lowest and highest of a list, first met.
+pub mod MinMax
