@@ -3,14 +3,14 @@
 use mathlib.Core.Path.{_≡_, refl, sym, ap, ap₂, _∙_, subst}
 use mathlib.Core.List.{List, [], _∷_, _++_}
 use Prim.Native.Nat.{ℕ, zero, suc, _+_, _-_, _*_, _/_, _%_, _^_, _≤_, _<_}
-use native.Mathlib.Nat.{pow-suc, mul-comm, mul-assoc, mod-eq-of-lt, zero-div, zero-mod, div-div-eq-div-mul}
+use native.Mathlib.Nat.{pow-suc, mul-comm, mul-assoc, mod-eq-of-lt, zero-div, zero-mod, div-div-eq-div-mul, zero-add, suc-add, div-one, mod-mod}
 use native.Mathlib.Numerals.{add-one}
 use native.Mathlib.Omega.{arith}
 use lib.Dec.{lit<}
 use lib.Arith.{mod-mul}
 use lib.Pow as Pow
 use lib.ListN.{length, getD, take, drop}
-use lib.Seq.{take-nil}
+use lib.Seq.{take-nil, sets, sets-eq}
 use Rattle.bit_rule.specs.Bytes.{AreBytes, number, bytesOf, bytesFor}
 
 -- a byte is eight bits
@@ -115,3 +115,42 @@ number-take (suc n) (x ∷ xs) h =
     let split = mod-mul (x + 256 * number xs) (pow256-pos n) (lit< {m = 0} {n = 256} tt) in
     let rest = ap (λ y. y % 256 ^ n) high in
     omega (arith, number-take n xs (tail-bytes xs h), split, rest, ap (λ y. (x + 256 * number xs) % y) (pow-suc 256 n))
+
+-- the eight bytes of a word, written out
+abbrev pub wordBytes : ℕ → List ℕ
+wordBytes x =
+    x % 256
+    ∷ x / 0x100 % 256
+    ∷ x / 0x1_0000 % 256
+    ∷ x / 0x100_0000 % 256
+    ∷ x / 0x1_0000_0000 % 256
+    ∷ x / 0x100_0000_0000 % 256
+    ∷ x / 0x1_0000_0000_0000 % 256
+    ∷ x / 0x100_0000_0000_0000 % 256
+    ∷ []
+
+pub bytesOf-word : (x : ℕ) → bytesOf 8 x ≡ wordBytes x
+unfolding bytesOf
+bytesOf-word x = simp div-div-eq-div-mul
+
+-- eight stores, a byte each, put a word at the start of a list
+pub sets-word : (x : ℕ) (out : List ℕ) → 8 ≤ length out → sets out 0 (wordBytes x) ≡ bytesOf 8 x ++ drop 8 out
+sets-word x out h = sets-eq (wordBytes x) out 0 h ∙ ap (λ bytes. bytes ++ drop 8 out) (sym (bytesOf-word x))
+
+-- more bytes: those of the quotient follow
+pub bytesOf-add : (a b x : ℕ) → bytesOf (a + b) x ≡ bytesOf a x ++ bytesOf b (x / 256 ^ a)
+unfolding bytesOf
+bytesOf-add zero b x = ap₂ bytesOf (zero-add b) (sym (div-one x))
+bytesOf-add (suc a) b x =
+    let quotient : x / 256 / 256 ^ a ≡ x / 256 ^ suc a =
+    div-div-eq-div-mul x 256 (256 ^ a) ∙ ap (λ y. x / y) (mul-comm 256 (256 ^ a) ∙ sym (pow-suc 256 a)) in
+    ap (λ n. bytesOf n x) (suc-add a b)
+    ∙ ap (λ l. x % 256 ∷ l) (bytesOf-add a b (x / 256) ∙ ap (λ y. bytesOf a (x / 256) ++ bytesOf b y) quotient)
+
+-- what stands above n bytes does not matter to them
+pub bytesOf-cut : (n x : ℕ) → bytesOf n (x % 256 ^ n) ≡ bytesOf n x
+bytesOf-cut n x =
+    let cut : number (bytesOf n (x % 256 ^ n)) ≡ number (bytesOf n x) =
+    number-bytesOf n (x % 256 ^ n) ∙ mod-mod x (256 ^ n) ∙ sym (number-bytesOf n x) in
+    number-injective (bytesOf n (x % 256 ^ n)) (bytesOf n x) (bytesOf-are-bytes n (x % 256 ^ n)) (bytesOf-are-bytes n x)
+    (length-bytesOf n (x % 256 ^ n) ∙ sym (length-bytesOf n x)) cut

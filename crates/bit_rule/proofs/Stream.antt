@@ -28,12 +28,12 @@ sumFrom-up at (p ∷ ps) =
 
 -- a value in front: the rest moves up by its width
 pub streamNumber-cons : (p : Piece) (ps : List Piece) → streamNumber (p ∷ ps) ≡ p .value + 2 ^ p .width * streamNumber ps
-unfolding streamNumber
+unfolding streamNumber sumFrom
 streamNumber-cons p ps =
     omega (arith, ap (λ k. sumFrom k ps) (zero-add (p .width)) ∙ sumFrom-up (p .width) ps)
 
 pub streamNumber-nil : streamNumber [] ≡ 0
-unfolding streamNumber
+unfolding streamNumber sumFrom
 streamNumber-nil = refl
 
 pub totalBits-append : (ps qs : List Piece) → totalBits (ps ++ qs) ≡ totalBits ps + totalBits qs

@@ -9,12 +9,10 @@ use Rattle.bit_rule.specs.Stream.{Piece}
 
 -- w bits from bit `at` on of the number that the bytes stand for.
 unfoldable pub bitsAt : ℕ → ℕ → List ℕ → ℕ
-unfolding number
 bitsAt at w bs = number bs / 2 ^ at % 2 ^ w
 
 -- The value at index i of width w.
 unfoldable pub valueAt : ℕ → ℕ → List ℕ → ℕ
-unfolding bitsAt
 valueAt w i bs = bitsAt (i * w) w bs
 
 -- Whether the value at index i of width w lies in data of so many bytes.
@@ -23,12 +21,10 @@ liesIn w i len = leb ((i + 1) * w) (8 * len)
 
 -- The n values of width w from index i on.
 unfoldable pub valuesFrom : ℕ → ℕ → ℕ → List ℕ → List ℕ
-unfolding valueAt
 valuesFrom w i zero bs = []
 valuesFrom w i (suc n) bs = valueAt w i bs ∷ valuesFrom w (i + 1) n bs
 
 -- Values of given widths, one after the other from bit `at` on: what a stream of those widths holds there.
 unfoldable pub piecesFrom : ℕ → List ℕ → List ℕ → List Piece
-unfolding bitsAt
 piecesFrom at [] bs = []
 piecesFrom at (w ∷ ws) bs = record { value = bitsAt at w bs; width = w } ∷ piecesFrom (at + w) ws bs

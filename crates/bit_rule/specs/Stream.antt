@@ -20,11 +20,9 @@ sumFrom at [] = 0
 sumFrom at (p ∷ ps) = p .value * 2 ^ at + sumFrom (at + p .width) ps
 
 unfoldable pub streamNumber : List Piece → ℕ
-unfolding sumFrom
 streamNumber ps = sumFrom 0 ps
 
 unfoldable pub streamBytes : List Piece → List ℕ
-unfolding bytesOf totalBits streamNumber
 streamBytes ps = bytesOf (bytesFor (totalBits ps)) (streamNumber ps)
 
 -- Each value fits its width: v < 2 ^ w.

@@ -13,9 +13,7 @@ packerWidth w = leb w 64
 
 -- 64 less the count of leading zeros: how many binary digits n has
 unfoldable pub digitsOf : ℕ → ℕ
-unfolding leadingZeros
 digitsOf n = 64 - leadingZeros 64 n
 
 unfoldable pub widthOf : ℕ → ℕ
-unfolding digitsOf
 widthOf n = cond (ltb 56 (digitsOf n)) 64 (digitsOf n)

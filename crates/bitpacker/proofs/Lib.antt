@@ -1,0 +1,2 @@
+-- The packer's laws.
+pub mod Laws

@@ -1,0 +1,2 @@
+-- What the packer's calls answer and leave.
+pub mod Packer
