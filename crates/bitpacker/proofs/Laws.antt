@@ -21,7 +21,7 @@ use Rattle.bit_rule.proofs.Width.{le-or-lt}
 use Rattle.refusal.specs.declared.Refusal.the-variants.{NoRoom}
 use Rattle.bitpacker.specs.declared.BitPacker.{BitPacker}
 use Rattle.bitpacker.specs.declared.Written.the-variants.{Emitted}
-use Rattle.bitpacker.specs.Packer.{Outcome, outcome, refused, holding, emit, completeBytes, damagedPacker, written, writeOf}
+use Rattle.bitpacker.specs.Packer.{outcome, refused, holding, fresh, emit, completeBytes, damagedPacker, written, writeOf, flushOf}
 
 -- a quotient by 2 ^ bits is 0 exactly below 2 ^ bits
 pub over-law : (bits x : ℕ) → not (eqb (x / 2 ^ bits) 0) ≡ leb (2 ^ bits) x
@@ -143,3 +143,14 @@ module _ (p : BitPacker) (v w : ℕ) (out : List ℕ) (whole : damagedPacker p �
   pub write-no-room : length out < completeBytes (p .«mini_buffer_written» + w) → writeOf p v w out ≡ refused NoRoom out
   unfolding writeOf
   write-no-room short = simp (whole, le-leb _ _ narrow, fits, lt-ltb _ _ short)
+
+-- the same of a flush
+module _ (p : BitPacker) (out : List ℕ) (whole : damagedPacker p ≡ false) where
+  pub flush-room : bytesFor (p .«mini_buffer_written») ≤ length out
+      → flushOf p out ≡ outcome (Emitted fresh (bytesFor (p .«mini_buffer_written»))) (emit (bytesFor (p .«mini_buffer_written»)) (p .«mini_buffer») out)
+  unfolding flushOf
+  flush-room room = simp (whole, le-ltb _ _ room)
+
+  pub flush-no-room : length out < bytesFor (p .«mini_buffer_written») → flushOf p out ≡ refused NoRoom out
+  unfolding flushOf
+  flush-no-room short = simp (whole, lt-ltb _ _ short)

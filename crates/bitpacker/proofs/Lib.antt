@@ -1,2 +1,3 @@
--- The packer's laws.
+-- The packer's laws: of one call, and of a whole run.
 pub mod Laws
+pub mod Run

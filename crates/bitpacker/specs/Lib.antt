@@ -1,2 +1,3 @@
--- What the packer's calls answer and leave.
+-- What the packer's calls answer and leave, and what a whole run of them does.
 pub mod Packer
+pub mod Run

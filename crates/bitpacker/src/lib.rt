@@ -2,12 +2,9 @@
 // output is lent at each call, and a call that cannot be met is refused and changes nothing.
 use refusal::Refusal;
 ghost use mathlib.Core.Path.{_≡_};
-ghost use mathlib.Core.Bool.{_||_};
-ghost use mathlib.Core.List.{_++_};
 ghost use Prim.Native.Nat.{_^_, _≤_};
 ghost use lib.Dec.{leb};
-ghost use lib.ListN.{length, drop};
-ghost use Rattle.bit_rule.specs.Bytes.{bytesOf};
+ghost use lib.ListN.{length};
 ghost use Rattle.bitpacker.specs.Packer.{outcome, fresh, emit, damagedPacker, writeOf, flushOf};
 
 // The bits that wait until 64 are complete, lowest first, and how many they are.
@@ -123,7 +120,7 @@ impl BitPacker {
     }
 
     // Emits what is held, the last byte filled up with zero bits, and holds nothing then.
-    pub fn flush(self, output: &mut [u8]) -> Written
+    pub fn flush(mut self, output: &mut [u8]) -> Written
         ensures { λ r. ⌜ outcome r (now (output .exit)) ≡ flushOf self (now (output .entry)) ⌝ }
     {
         if self.damaged() {
@@ -134,7 +131,9 @@ impl BitPacker {
             return Written::Refused(Refusal::NoRoom);
         }
         store_bytes(self.mini_buffer, n, output);
-        Written::Emitted(BitPacker::new(), n)
+        self.mini_buffer = 0;
+        self.mini_buffer_written = 0;
+        Written::Emitted(self, n)
     }
 
     // The same as a flush, as in the Rust.

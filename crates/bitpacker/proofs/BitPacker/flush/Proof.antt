@@ -31,17 +31,14 @@ returns-2 c = simp (not-damaged (c .before .before), lt-ltb _ _ (c .if2 .taken))
 store-bytes-requires : tie.Need-store-bytes-requires
 store-bytes-requires c κs = search needs
 
-new-requires : tie.Need-new-requires
-new-requires c κs = search needs
-
 same-length : tie.Need-same-length
 same-length c = search needs
 
 returns-3 : tie.Need-returns-3
 unfolding flushOf
 returns-3 c =
-    let at-room = c .before .before .before .before .before in
-    simp (not-damaged (at-room .before .before), le-ltb _ _ (at-room .if2 .left), c .new .ensures, c .before .before .before .store-bytes .ensures)
+    let at-room = c .before .before .before .before in
+    simp (not-damaged (at-room .before .before), le-ltb _ _ (at-room .if2 .left), c .before .before .store-bytes .ensures)
 
 pub flush-spec : {M : Type 1} → statement M
 flush-spec =
@@ -52,6 +49,5 @@ flush-spec =
     add-n
     returns-2
     store-bytes-requires
-    new-requires
     same-length
     returns-3)
