@@ -3,3 +3,4 @@ pub mod Bytes
 pub mod Stream
 pub mod Place
 pub mod Width
+pub mod Search
