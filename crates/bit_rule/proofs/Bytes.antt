@@ -5,6 +5,7 @@ use mathlib.Core.List.{List, [], _∷_, _++_}
 use Prim.Native.Nat.{ℕ, zero, suc, _+_, _-_, _*_, _/_, _%_, _^_, _≤_, _<_}
 use native.Mathlib.Nat.{pow-suc, mul-comm, mul-assoc, mod-eq-of-lt, zero-div, zero-mod, div-div-eq-div-mul, zero-add, suc-add, div-one, mod-mod}
 use native.Mathlib.Numerals.{add-one}
+use native.Mathlib.Numerals.{towards-suc}
 use native.Mathlib.Omega.{arith}
 use lib.Dec.{lit<}
 use lib.Arith.{mod-mul}
@@ -154,3 +155,30 @@ bytesOf-cut n x =
     number-bytesOf n (x % 256 ^ n) ∙ mod-mod x (256 ^ n) ∙ sym (number-bytesOf n x) in
     number-injective (bytesOf n (x % 256 ^ n)) (bytesOf n x) (bytesOf-are-bytes n (x % 256 ^ n)) (bytesOf-are-bytes n x)
     (length-bytesOf n (x % 256 ^ n) ∙ sym (length-bytesOf n x)) cut
+
+-- eight bytes at a place, each by its index
+link : (n a : ℕ) (xs : List ℕ) {y : ℕ} → number (take n (drop (suc a) xs)) ≡ y → number (take (suc n) (drop a xs)) ≡ getD xs a 0 + 256 * y
+link n a xs e = window n a xs ∙ ap (λ x. getD xs a 0 + 256 * x) e
+
+last : (a : ℕ) (xs : List ℕ) → number (take 1 (drop a xs)) ≡ getD xs a 0
+unfolding number
+last a xs = window 0 a xs ∙ omega arith
+
+pub window-word : (a : ℕ) (xs : List ℕ)
+    → number (take 8 (drop a xs))
+    ≡ getD xs a 0
+    + 256
+    * (getD xs (a + 1) 0
+    + 256
+    * (getD xs (a + 2) 0
+    + 256
+    * (getD xs (a + 3) 0 + 256 * (getD xs (a + 4) 0 + 256 * (getD xs (a + 5) 0 + 256 * (getD xs (a + 6) 0 + 256 * getD xs (a + 7) 0))))))
+window-word a xs =
+    simp towards-suc
+    (link 7 a xs
+    (link 6 (suc a) xs
+    (link 5 (suc (suc a)) xs
+    (link 4 (suc (suc (suc a))) xs
+    (link 3 (suc (suc (suc (suc a)))) xs
+    (link 2 (suc (suc (suc (suc (suc a))))) xs
+    (link 1 (suc (suc (suc (suc (suc (suc a)))))) xs (last (suc (suc (suc (suc (suc (suc (suc a))))))) xs))))))))

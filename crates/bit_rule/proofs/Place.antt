@@ -2,6 +2,8 @@
 -- from them. Bytes that follow change nothing, and eight bytes around a place are enough to read it.
 -- Everything is about one number cut by powers of two: lib.Pow has the cuts.
 use mathlib.Core.Path.{_≡_, refl, sym, ap, ap₂, _∙_, subst}
+use mathlib.Core.Logic.{⊎-elim}
+use mathlib.Core.Bool.{true}
 use mathlib.Core.List.{List, [], _∷_, _++_, map}
 use Prim.Native.Nat.{ℕ, zero, suc, _+_, _-_, _*_, _/_, _%_, _^_, _≤_, _<_}
 use native.Mathlib.Nat.{mul-comm, mul-assoc, mod-eq-of-lt, div-eq-of-lt, add-mul-div-left, add-mul-mod-self-left, suc-mul, zero-mul, zero-add, add-comm, div-one, le-trans, mul-le-mul-right}
@@ -14,6 +16,8 @@ use lib.Seq.{split-at, length-take-le, ext-getD, getD-drop}
 use Rattle.bit_rule.specs.Bytes.{AreBytes, number, bytesOf, bytesFor}
 use Rattle.bit_rule.specs.Stream.{Piece, totalBits, streamNumber, streamBytes, Fit, pieceAt, ofWidth}
 use Rattle.bit_rule.specs.Place.{bitsAt, valueAt, valuesFrom, piecesFrom}
+use Rattle.bit_rule.specs.Width.{legalWidth}
+use Rattle.bit_rule.proofs.Width.{legal-cases}
 use Rattle.bit_rule.proofs.Bytes.{pow-bytes, number-append, bytesOf-number, number-drop, number-take}
 use Rattle.bit_rule.proofs.Stream.{streamNumber-nil, streamNumber-cons, streamNumber-append, streamNumber-lt, totalBits-append, totalBits-ofWidth, number-streamBytes, length-streamBytes, bytesFor-enough}
 
@@ -100,6 +104,16 @@ getD-valuesFrom w i zero bs j h = absurd (omega arith)
 getD-valuesFrom w i (suc n) bs zero h = ap (λ k. valueAt w k bs) (omega arith)
 getD-valuesFrom w i (suc n) bs (suc j) h =
     getD-valuesFrom w (i + 1) n bs j (omega arith) ∙ ap (λ k. valueAt w k bs) (omega arith)
+
+-- one more value behind a stretch
+values-then : (w n i : ℕ) (bs : List ℕ) → valuesFrom w i (suc n) bs ≡ valuesFrom w i n bs ++ (valueAt w (i + n) bs ∷ [])
+unfolding valuesFrom
+values-then w zero i bs = ap (λ k. valueAt w k bs ∷ []) (omega arith)
+values-then w (suc n) i bs =
+    ap (λ l. valueAt w i bs ∷ l) (values-then w n (i + 1) bs ∙ ap (λ k. valuesFrom w (i + 1) n bs ++ (valueAt w k bs ∷ [])) (omega arith))
+
+pub valuesFrom-then : (w i n : ℕ) (bs : List ℕ) → valuesFrom w i (n + 1) bs ≡ valuesFrom w i n bs ++ (valueAt w (i + n) bs ∷ [])
+valuesFrom-then w i n bs = ap (λ k. valuesFrom w i k bs) (add-one n) ∙ values-then w n i bs
 
 -- a column that was packed is read back whole, whatever bytes follow it
 pub read-back : (w : ℕ) (vs rest : List ℕ) → Fit (ofWidth w vs) → valuesFrom w 0 (length vs) (streamBytes (ofWidth w vs) ++ rest) ≡ vs
@@ -197,3 +211,8 @@ bitsAt-load at w bs bytes h =
     (ap (λ x. x / 2 ^ s % 2 ^ w) loaded
     ∙ cut-above (n / 2 ^ (8 * a)) s w 64 h
     ∙ ap (λ x. x % 2 ^ w) (shr-shr n (8 * a) s ∙ ap (λ x. n / 2 ^ x) whole))
+
+-- A value of a legal width lies within the eight bytes at the byte in which it starts.
+pub legal-span : (w i : ℕ) → legalWidth w ≡ true → i * w % 8 + w ≤ 64
+legal-span w i legal =
+    ⊎-elim (λ low. omega arith) (λ top. subst (λ k. i * k % 8 + k ≤ 64) (sym top) (omega arith)) (legal-cases w legal)

@@ -1,0 +1,2 @@
+-- The unpacker's laws.
+pub mod Laws

@@ -1,0 +1,2 @@
+-- What the unpacker's calls answer and leave.
+pub mod Unpacker
