@@ -6,7 +6,7 @@ use mathlib.Core.Logic.{⊎-elim}
 use mathlib.Core.Bool.{true}
 use mathlib.Core.List.{List, [], _∷_, _++_, map}
 use Prim.Native.Nat.{ℕ, zero, suc, _+_, _-_, _*_, _/_, _%_, _^_, _≤_, _<_}
-use native.Mathlib.Nat.{mul-comm, mul-assoc, mod-eq-of-lt, div-eq-of-lt, add-mul-div-left, add-mul-mod-self-left, suc-mul, zero-mul, zero-add, add-comm, div-one, le-trans, mul-le-mul-right}
+use native.Mathlib.Nat.{mul-comm, mul-assoc, mod-eq-of-lt, div-eq-of-lt, add-mul-div-left, add-mul-mod-self-left, suc-mul, zero-mul, zero-add, add-comm, div-one, le-trans, mul-le-mul-right, add-zero, suc-add, add-mul, mod-lt}
 use native.Mathlib.Numerals.{add-one}
 use native.Mathlib.Omega.{arith}
 use lib.Dec.{lit<}
@@ -115,6 +115,25 @@ values-then w (suc n) i bs =
 pub valuesFrom-then : (w i n : ℕ) (bs : List ℕ) → valuesFrom w i (n + 1) bs ≡ valuesFrom w i n bs ++ (valueAt w (i + n) bs ∷ [])
 valuesFrom-then w i n bs = ap (λ k. valuesFrom w i k bs) (add-one n) ∙ values-then w n i bs
 
+-- a stretch is one stretch and the next
+pub valuesFrom-add : (w i n m : ℕ) (bs : List ℕ) → valuesFrom w i (n + m) bs ≡ valuesFrom w i n bs ++ valuesFrom w (i + n) m bs
+unfolding valuesFrom
+valuesFrom-add w i zero m bs = ap₂ (λ k j. valuesFrom w j k bs) (zero-add m) (sym (add-zero i))
+valuesFrom-add w i (suc n) m bs =
+    ap (λ k. valuesFrom w i k bs) (suc-add n m)
+    ∙ ap (λ l. valueAt w i bs ∷ l) (valuesFrom-add w (i + 1) n m bs ∙ ap (λ k. valuesFrom w (i + 1) n bs ++ valuesFrom w k m bs) (omega arith))
+
+-- a value is below 2 ^ width
+pub valueAt-lt : (w i : ℕ) (bs : List ℕ) → valueAt w i bs < 2 ^ w
+unfolding valueAt bitsAt
+valueAt-lt w i bs = mod-lt (number bs / 2 ^ (i * w)) (pow-pos w)
+
+pub valuesFrom-lt : (w i n : ℕ) (bs : List ℕ) (j : ℕ) → getD (valuesFrom w i n bs) j 0 < 2 ^ w
+unfolding valuesFrom
+valuesFrom-lt w i zero bs j = pow-pos w
+valuesFrom-lt w i (suc n) bs zero = valueAt-lt w i bs
+valuesFrom-lt w i (suc n) bs (suc j) = valuesFrom-lt w (i + 1) n bs j
+
 -- a column that was packed is read back whole, whatever bytes follow it
 pub read-back : (w : ℕ) (vs rest : List ℕ) → Fit (ofWidth w vs) → valuesFrom w 0 (length vs) (streamBytes (ofWidth w vs) ++ rest) ≡ vs
 read-back w vs rest f =
@@ -216,3 +235,18 @@ bitsAt-load at w bs bytes h =
 pub legal-span : (w i : ℕ) → legalWidth w ≡ true → i * w % 8 + w ≤ 64
 legal-span w i legal =
     ⊎-elim (λ low. omega arith) (λ top. subst (λ k. i * k % 8 + k ≤ 64) (sym top) (omega arith)) (legal-cases w legal)
+
+-- ---- a part of the data that starts where a value does
+
+pub valueAt-drop : (w a k i : ℕ) (bs : List ℕ) → AreBytes bs → 8 * a ≡ k * w → valueAt w i (drop a bs) ≡ valueAt w (k + i) bs
+unfolding valueAt bitsAt
+valueAt-drop w a k i bs bytes starts =
+    ap (λ n. n / 2 ^ (i * w) % 2 ^ w) (number-drop a bs bytes ∙ ap (λ x. number bs / x) (pow-bytes a))
+    ∙ ap (λ n. n % 2 ^ w) (shr-shr (number bs) (8 * a) (i * w) ∙ ap (λ b. number bs / 2 ^ b) (omega (arith, starts, add-mul k i w)))
+
+pub valuesFrom-drop : (w a k i n : ℕ) (bs : List ℕ) → AreBytes bs → 8 * a ≡ k * w → valuesFrom w i n (drop a bs) ≡ valuesFrom w (k + i) n bs
+unfolding valuesFrom
+valuesFrom-drop w a k i zero bs bytes starts = refl
+valuesFrom-drop w a k i (suc n) bs bytes starts =
+    ap₂ (λ v l. v ∷ l) (valueAt-drop w a k i bs bytes starts)
+    (valuesFrom-drop w a k (i + 1) n bs bytes starts ∙ ap (λ j. valuesFrom w j n bs) (omega arith))

@@ -3,15 +3,15 @@
 use mathlib.Core.Path.{_≡_, refl, sym, ap, ap₂, _∙_, subst}
 use mathlib.Core.Logic.{⊎-elim}
 use mathlib.Core.Bool.{Bool, true, false, _&&_, cond}
-use mathlib.Core.List.{List, [], _∷_, _++_, append-nil}
+use mathlib.Core.List.{List, [], _∷_, _++_, append-nil, append-assoc}
 use Prim.Native.Nat.{ℕ, zero, suc, _+_, _-_, _^_, _≤_, _<_, min, zero-le}
 use native.Mathlib.Numerals.{add-one}
 use native.Mathlib.Omega.{arith}
 use lib.Dec.{leb}
-use lib.ListN.{length, getD, take, drop, set, length-append}
-use lib.Seq.{set-at, drop-cons, drop-drop, append-snoc, drop-at, take-at}
+use lib.ListN.{length, getD, take, drop, set, length-append, length-drop}
+use lib.Seq.{set-at, drop-cons, append-snoc, take-append-seam, drop-append-add, drop-drop, getD-append-add, getD-drop}
 use borrow.Author.Tests.{le-leb, lt-leb, leb-true}
-use Rattle.bit_rule.specs.Search.{liesBetween, matchingIds, atStart}
+use Rattle.bit_rule.specs.Search.{liesBetween, matchingIds, atStart, pastedAt}
 use Rattle.bit_rule.proofs.Width.{le-or-lt}
 
 pub matching-le : (lo hi id : ℕ) (vs : List ℕ) → length (matchingIds lo hi id vs) ≤ length vs
@@ -82,3 +82,25 @@ store-id ids positions id h =
     ∙ set-at ids (getD positions n 0) (drop (suc n) positions) id n refl
     ∙ sym (append-snoc ids id (drop (suc n) positions))
     ∙ ap (λ k. (ids ++ id ∷ []) ++ drop k positions) (sym (length-append ids (id ∷ []) ∙ add-one n))
+
+-- a place past the ids holds what it held
+pub past-the-ids : (ids positions : List ℕ) (i : ℕ) → length ids ≤ i → getD (atStart ids positions) i 0 ≡ getD positions i 0
+past-the-ids ids positions i h =
+    let n = length ids in
+    let beyond : i ≡ n + (i - n) = omega arith in
+    ap (λ k. getD (atStart ids positions) k 0) beyond
+    ∙ getD-append-add ids (drop n positions) (i - n) 0
+    ∙ getD-drop n positions (i - n) 0
+    ∙ ap (λ k. getD positions k 0) (sym beyond)
+
+-- more ids pasted behind those that stand there
+pub paste-more : (ids more positions : List ℕ) → pastedAt (length ids) more (atStart ids positions) ≡ atStart (ids ++ more) positions
+paste-more ids more positions =
+    let n = length ids in
+    ap₂ (λ l r. l ++ (more ++ r)) (take-append-seam ids (drop n positions))
+    (drop-append-add ids (drop n positions) (length more) ∙ drop-drop (length more) n positions)
+    ∙ sym (append-assoc ids more (drop (n + length more) positions))
+    ∙ ap (λ k. (ids ++ more) ++ drop k positions) (sym (length-append ids more))
+
+pub length-atStart : (ids positions : List ℕ) → length ids ≤ length positions → length (atStart ids positions) ≡ length positions
+length-atStart ids positions h = simp (length-append, length-drop) (omega arith)

@@ -4,7 +4,7 @@ use Prim.Native.Nat.{ℕ, _+_}
 use mathlib.Core.Bool.{Bool, _&&_, cond}
 use mathlib.Core.List.{List, [], _∷_, _++_}
 use lib.Dec.{leb}
-use lib.ListN.{length, drop}
+use lib.ListN.{length, take, drop}
 
 abbrev pub liesBetween : ℕ → ℕ → ℕ → Bool
 liesBetween lo hi v = leb lo v && leb v hi
@@ -18,3 +18,7 @@ matchingIds lo hi id (v ∷ vs) =
 -- A list at the start of another; the places past it stay.
 abbrev pub atStart : List ℕ → List ℕ → List ℕ
 atStart ids positions = ids ++ drop (length ids) positions
+
+-- A list at a place of another; everything else stays.
+abbrev pub pastedAt : ℕ → List ℕ → List ℕ → List ℕ
+pastedAt at ids positions = take at positions ++ (ids ++ drop (at + length ids) positions)

@@ -2,18 +2,20 @@
 // the output and the positions are lent at each call, and a call that cannot be met is refused and
 // changes nothing.
 mod bits;
+mod search;
 
 use bits::bits_at;
 use bits::column_bytes;
 use bits::mask_of;
 use refusal::Refusal;
+use search::find;
 ghost use mathlib.Core.Path.{_≡_};
 ghost use mathlib.Core.Bool.{true};
 ghost use Prim.Native.Nat.{_+_, _*_, _%_, _^_, _≤_, _<_};
 ghost use lib.ListN.{length};
 ghost use Rattle.bit_rule.specs.Width.{legalWidth};
 ghost use Rattle.bit_rule.specs.Place.{valuesFrom};
-ghost use Rattle.bitunpacker.specs.Unpacker.{maskOf, badWidth, damagedMask, Sound, newOf, getOf, range, getRangeOf};
+ghost use Rattle.bitunpacker.specs.Unpacker.{maskOf, badWidth, damagedMask, Sound, newOf, getOf, range, getRangeOf, search, searchOf};
 
 // The width of every value of a column, and the mask that cuts a value to it.
 pub struct BitUnpacker {
@@ -158,5 +160,37 @@ impl BitUnpacker {
         }
         self.fill(start, data, output);
         Filled::Done
+    }
+
+    // The ids from start to before end whose value lies in lo..=hi, ascending, at the start of the
+    // positions.
+    pub fn get_ids_for_value_range(
+        self,
+        lo: u64,
+        hi: u64,
+        start: u32,
+        end: u32,
+        data: &[u8],
+        positions: &mut [u32],
+    ) -> Found
+        ensures { λ r. ⌜ search r (now (positions .exit)) ≡ searchOf self lo hi start end (now («data» .entry)) (now (positions .entry)) ⌝ }
+    {
+        if self.has_bad_width() {
+            return Found::Refused(Refusal::BadWidth);
+        }
+        if self.has_damaged_mask() {
+            return Found::Refused(Refusal::Damaged);
+        }
+        if end <= start {
+            return Found::Ids(0);
+        }
+        let width = self.num_bits;
+        if data.len() < column_bytes(end as usize, width) {
+            return Found::Refused(Refusal::OutOfData);
+        }
+        if positions.len() < (end - start) as usize {
+            return Found::Refused(Refusal::NoRoom);
+        }
+        Found::Ids(find(self, lo, hi, start, end, data, positions))
     }
 }

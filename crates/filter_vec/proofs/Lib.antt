@@ -1,0 +1,2 @@
+-- The laws of the filter's loop.
+pub mod Turn

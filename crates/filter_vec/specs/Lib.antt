@@ -1,0 +1,2 @@
+-- What the filter answers and leaves.
+pub mod Filter
