@@ -5,11 +5,12 @@ use mathlib.Core.Logic.{⊎-elim}
 use mathlib.Core.Bool.{Bool, true, false, _&&_, cond}
 use mathlib.Core.List.{List, [], _∷_, _++_, append-nil, append-assoc}
 use Prim.Native.Nat.{ℕ, zero, suc, _+_, _-_, _^_, _≤_, _<_, min, zero-le}
+use native.Mathlib.Nat.{zero-add, add-zero, add-assoc}
 use native.Mathlib.Numerals.{add-one}
 use native.Mathlib.Omega.{arith}
 use lib.Dec.{leb}
-use lib.ListN.{length, getD, take, drop, set, length-append, length-drop}
-use lib.Seq.{set-at, drop-cons, append-snoc, take-append-seam, drop-append-add, drop-drop, getD-append-add, getD-drop}
+use lib.ListN.{length, getD, take, drop, set, length-append, length-drop, length-set, take-append-drop}
+use lib.Seq.{set-at, drop-cons, append-snoc, take-at, length-take-le, drop-append-add, drop-drop, getD-append-add, getD-drop}
 use borrow.Author.Tests.{le-leb, lt-leb, leb-true}
 use Rattle.bit_rule.specs.Search.{liesBetween, matchingIds, atStart, pastedAt}
 use Rattle.bit_rule.proofs.Width.{le-or-lt}
@@ -93,14 +94,72 @@ past-the-ids ids positions i h =
     ∙ getD-drop n positions (i - n) 0
     ∙ ap (λ k. getD positions k 0) (sym beyond)
 
--- more ids pasted behind those that stand there
-pub paste-more : (ids more positions : List ℕ) → pastedAt (length ids) more (atStart ids positions) ≡ atStart (ids ++ more) positions
-paste-more ids more positions =
+-- what is pasted at place 0 stands at the start
+pub paste-first : (ids positions : List ℕ) → pastedAt 0 ids positions ≡ atStart ids positions
+paste-first ids positions = ap (λ n. ids ++ drop n positions) (zero-add (length ids))
+
+-- nothing pasted changes nothing
+pub paste-none : (at : ℕ) (positions : List ℕ) → pastedAt at [] positions ≡ positions
+paste-none at positions = ap (λ n. take at positions ++ drop n positions) (add-zero at) ∙ take-append-drop at positions
+
+-- more ids pasted behind some that were pasted
+pub paste-paste : (at : ℕ) (ids more positions : List ℕ) → at ≤ length positions
+    → pastedAt (at + length ids) more (pastedAt at ids positions) ≡ pastedAt at (ids ++ more) positions
+paste-paste at ids more positions h =
+    let front = take at positions in
     let n = length ids in
-    ap₂ (λ l r. l ++ (more ++ r)) (take-append-seam ids (drop n positions))
-    (drop-append-add ids (drop n positions) (length more) ∙ drop-drop (length more) n positions)
-    ∙ sym (append-assoc ids more (drop (n + length more) positions))
-    ∙ ap (λ k. (ids ++ more) ++ drop k positions) (sym (length-append ids more))
+    let rest = drop (at + n) positions in
+    let whole : pastedAt at ids positions ≡ (front ++ ids) ++ rest = sym (append-assoc front ids rest) in
+    let placed : length (front ++ ids) ≡ at + n = length-append front ids ∙ ap (λ k. k + n) (length-take-le at positions h) in
+    let after : drop (at + n + length more) ((front ++ ids) ++ rest) ≡ drop (at + length (ids ++ more)) positions =
+        ap (λ k. drop (k + length more) ((front ++ ids) ++ rest)) (sym placed)
+        ∙ drop-append-add (front ++ ids) rest (length more)
+        ∙ drop-drop (length more) (at + n) positions
+        ∙ ap (λ k. drop k positions) (add-assoc at n (length more) ∙ ap (λ k. at + k) (sym (length-append ids more))) in
+    ap (pastedAt (at + n) more) whole
+    ∙ ap₂ (λ l r. l ++ (more ++ r)) (take-at (front ++ ids) rest (at + n) placed) after
+    ∙ append-assoc front ids (more ++ drop (at + length (ids ++ more)) positions)
+    ∙ ap (λ l. front ++ l) (sym (append-assoc ids more (drop (at + length (ids ++ more)) positions)))
 
 pub length-atStart : (ids positions : List ℕ) → length ids ≤ length positions → length (atStart ids positions) ≡ length positions
 length-atStart ids positions h = simp (length-append, length-drop) (omega arith)
+
+-- ---- a search that looks at one value after the other
+
+-- Past some values: the ids of those that match, counted from `first` on, are so many, and stand at the start of the positions.
+pub record Searched (lo hi first : ℕ) (passed positions₀ : List ℕ) (found : ℕ) (positions : List ℕ) : Type 0 where
+  pub counted : found ≡ length (matchingIds lo hi first passed)
+  pub stored : positions ≡ atStart (matchingIds lo hi first passed) positions₀
+  pub same-length : length positions ≡ length positions₀
+
+pub none-searched : (lo hi first : ℕ) (positions : List ℕ) → Searched lo hi first [] positions 0 positions
+unfolding matchingIds
+none-searched lo hi first positions = record { counted = refl; stored = refl; same-length = refl }
+
+module _ {lo hi first : ℕ} {passed positions₀ : List ℕ} {found : ℕ} {positions : List ℕ} (so-far : Searched lo hi first passed positions₀ found positions)
+    {with-next : List ℕ} (v : ℕ) (next : with-next ≡ passed ++ v ∷ []) where
+  -- the next value matches: its id goes behind the others
+  pub search-match : {id : ℕ} → liesBetween lo hi v ≡ true → id ≡ first + length passed → length passed < length positions₀
+      → Searched lo hi first with-next positions₀ (found + 1) (set positions found id)
+  search-match {id} match is room =
+      let ids = matchingIds lo hi first passed in
+      let one-more : matchingIds lo hi first with-next ≡ ids ++ id ∷ [] =
+      ap (matchingIds lo hi first) next ∙ matching-then lo hi first passed v match ∙ ap (λ k. ids ++ k ∷ []) (sym is) in
+      record {
+        counted = omega (arith, so-far .counted, ap length one-more, length-append ids (id ∷ []));
+        stored = ap₂ (λ l k. set l k id) (so-far .stored) (so-far .counted)
+            ∙ store-id ids positions₀ id (omega (arith, matching-le lo hi first passed))
+            ∙ ap (λ l. atStart l positions₀) (sym one-more);
+        same-length = simp length-set (so-far .same-length);
+      }
+
+  -- it does not: nothing is written
+  pub search-pass : liesBetween lo hi v ≡ false → Searched lo hi first with-next positions₀ found positions
+  search-pass no-match =
+      let same : matchingIds lo hi first with-next ≡ matchingIds lo hi first passed =
+      ap (matchingIds lo hi first) next ∙ matching-passed lo hi first passed v no-match in
+      record {
+        counted = so-far .counted ∙ ap length (sym same);
+        stored = so-far .stored ∙ ap (λ l. atStart l positions₀) (sym same);
+        same-length = so-far .same-length;
+      }

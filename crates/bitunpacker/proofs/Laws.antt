@@ -99,7 +99,7 @@ read-value u i at shift bs bytes good place low =
 -- ---- a column's bytes
 
 -- n values of width w, eight of which take w bytes
-eights : (n w : ℕ) → n * w ≡ 8 * (n / 8 * w) + n % 8 * w
+pub eights : (n w : ℕ) → n * w ≡ 8 * (n / 8 * w) + n % 8 * w
 eights n w =
     ap (λ k. k * w) (omega arith)
     ∙ add-mul (8 * (n / 8)) (n % 8) w

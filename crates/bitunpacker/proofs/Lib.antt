@@ -1,2 +1,4 @@
--- The unpacker's laws.
+-- The unpacker's laws: of reading, of the search in batches, and of the search one by one.
 pub mod Laws
+pub mod Narrow
+pub mod Wide

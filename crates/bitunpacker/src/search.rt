@@ -58,6 +58,29 @@ fn keep(lo: u32, hi: u32, id: u32, batch: &mut [u32], positions: &mut [u32], fou
     found + count
 }
 
+// Decodes a batch from an index of the data on, whose first value has the id given, and keeps its
+// matching ids.
+fn decode_and_keep(
+    unpacker: BitUnpacker,
+    lo: u32,
+    hi: u32,
+    index: usize,
+    data: &[u8],
+    id: u32,
+    batch: &mut [u32],
+    positions: &mut [u32],
+    found: usize,
+) -> usize
+    requires { ⌜ InData unpacker (index + length (now batch)) (now «data») ⌝ }
+    requires { ⌜ unpacker .«num_bits» ≤ 32 ⌝ }
+    requires { ⌜ id + length (now batch) ≤ 2 ^ 32 ⌝ }
+    requires { ⌜ found + length (now batch) ≤ length (now positions) ⌝ }
+    ensures { λ r. ⌜ Kept found (matchingIds lo hi id (valuesFrom (unpacker .«num_bits») index (length (now (batch .entry))) (now («data» .entry)))) (now (positions .entry)) r (now (positions .exit)) ⌝ }
+{
+    decode(unpacker, index, data, batch);
+    keep(lo, hi, id, batch, positions, found)
+}
+
 // A ramp: at most 32 ids, wherever they start.
 fn ramp(
     unpacker: BitUnpacker,
@@ -76,11 +99,22 @@ fn ramp(
 {
     let mut batch = [0u32; BATCH];
     let n = (to - from) as usize;
-    decode(unpacker, from as usize, data, &mut batch[..n]);
-    keep(lo, hi, from, &mut batch[..n], positions, found)
+    let index = from as usize;
+    decode_and_keep(
+        unpacker,
+        lo,
+        hi,
+        index,
+        data,
+        from,
+        &mut batch[..n],
+        positions,
+        found,
+    )
 }
 
-// One batch of the highway: 32 ids that start on a byte, decoded from the part of the data that starts there.
+// One batch of the highway: 32 ids that start on a byte, decoded from the part of the data that
+// starts there.
 fn highway_batch(
     unpacker: BitUnpacker,
     lo: u32,
@@ -96,9 +130,19 @@ fn highway_batch(
     ensures { λ r. ⌜ Kept found (idsOf (unpacker .«num_bits») lo hi from (from + 32) (now («data» .entry))) (now (positions .entry)) r (now (positions .exit)) ⌝ }
 {
     let mut batch = [0u32; BATCH];
-    let offset = from as usize / 8 * unpacker.num_bits;
-    decode(unpacker, 0, &data[offset..], &mut batch[..]);
-    keep(lo, hi, from, &mut batch[..], positions, found)
+    let width = unpacker.num_bits;
+    let offset = from as usize / 8 * width;
+    decode_and_keep(
+        unpacker,
+        lo,
+        hi,
+        0,
+        &data[offset..],
+        from,
+        &mut batch,
+        positions,
+        found,
+    )
 }
 
 // Where the entrance ramp ends: at the first index from `start` on whose values start on a byte, or

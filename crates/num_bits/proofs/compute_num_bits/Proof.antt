@@ -15,14 +15,14 @@ cast-result : tie.Need-cast-result
 cast-result c = search needs
 
 returns : tie.Need-returns
-unfolding widthOf
+unfolding widthOf digitsOf
 returns c =
     let digits = digitsOf (c .before .args .n) in
     let narrow : digits ≤ 56 = omega arith in
     rw (le-ltb 56 digits narrow)
 
 returns-2 : tie.Need-returns-2
-unfolding widthOf
+unfolding widthOf digitsOf
 returns-2 c =
     let digits = digitsOf (c .before .args .n) in
     let wide : 56 < digits = omega arith in
