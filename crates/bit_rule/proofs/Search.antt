@@ -112,10 +112,10 @@ paste-paste at ids more positions h =
     let whole : pastedAt at ids positions ≡ (front ++ ids) ++ rest = sym (append-assoc front ids rest) in
     let placed : length (front ++ ids) ≡ at + n = length-append front ids ∙ ap (λ k. k + n) (length-take-le at positions h) in
     let after : drop (at + n + length more) ((front ++ ids) ++ rest) ≡ drop (at + length (ids ++ more)) positions =
-        ap (λ k. drop (k + length more) ((front ++ ids) ++ rest)) (sym placed)
-        ∙ drop-append-add (front ++ ids) rest (length more)
-        ∙ drop-drop (length more) (at + n) positions
-        ∙ ap (λ k. drop k positions) (add-assoc at n (length more) ∙ ap (λ k. at + k) (sym (length-append ids more))) in
+    ap (λ k. drop (k + length more) ((front ++ ids) ++ rest)) (sym placed)
+    ∙ drop-append-add (front ++ ids) rest (length more)
+    ∙ drop-drop (length more) (at + n) positions
+    ∙ ap (λ k. drop k positions) (add-assoc at n (length more) ∙ ap (λ k. at + k) (sym (length-append ids more))) in
     ap (pastedAt (at + n) more) whole
     ∙ ap₂ (λ l r. l ++ (more ++ r)) (take-at (front ++ ids) rest (at + n) placed) after
     ∙ append-assoc front ids (more ++ drop (at + length (ids ++ more)) positions)

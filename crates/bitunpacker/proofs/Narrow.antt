@@ -1,21 +1,23 @@
 -- The search in batches: what the filter leaves of a batch are its matching ids, and the ids of one stretch after the other are those of both.
 use mathlib.Core.Path.{_≡_, refl, sym, ap, ap₂, _∙_, subst}
 use mathlib.Core.List.{List, [], _++_}
-use Prim.Native.Nat.{ℕ, _+_, _-_, _*_, _/_, _%_, _^_, _≤_, _<_}
-use native.Mathlib.Nat.{add-zero, add-mul, sub-self, le-trans, mul-le-mul-right}
+use Prim.Native.Nat.{ℕ, _+_, _-_, _*_, _/_, _%_, _^_, _≤_, _<_, min}
+use native.Mathlib.Nat.{zero-add, add-zero, add-mul, sub-self, le-trans, lt-of-lt-of-le, mul-le-mul-right}
 use native.Mathlib.Omega.{arith}
-use lib.ListN.{length, take, drop, replicate, length-append, length-drop}
+use lib.Pow.{pow-mono}
+use lib.ListN.{length, getD, take, drop, replicate, length-append, length-drop}
 use lib.Seq.{take-all, take-append-seam, length-take-le}
 use Rattle.bit_rule.specs.Bytes.{AreBytes}
 use Rattle.bit_rule.specs.Place.{valuesFrom}
 use Rattle.bit_rule.specs.Search.{matchingIds, atStart, pastedAt}
-use Rattle.bit_rule.proofs.Place.{length-valuesFrom, valuesFrom-add, valuesFrom-drop}
-use Rattle.bit_rule.proofs.Search.{matching-le, matching-append, paste-none, paste-paste}
+use Rattle.bit_rule.proofs.Place.{length-valuesFrom, valuesFrom-add, valuesFrom-lt, valuesFrom-drop}
+use Rattle.bit_rule.proofs.Search.{matching-le, matching-append, none-above, hi-cut, paste-first, paste-none, paste-paste}
 use Rattle.bitunpacker.proofs.Laws.{eights}
 use Rattle.filter_vec.specs.Filter.{Filtered, filtered, filterOf}
 use Rattle.bitunpacker.specs.declared.BitUnpacker.{BitUnpacker}
+use Rattle.bitunpacker.specs.declared.Found.the-variants.{Ids}
 use Rattle.bitunpacker.specs.Parts.{InData, Kept}
-use Rattle.bitunpacker.specs.Unpacker.{idsOf}
+use Rattle.bitunpacker.specs.Unpacker.{search, idsOf}
 
 -- ---- the filter's answer, where every value has an id
 
@@ -30,7 +32,7 @@ filter-left lo hi id vals r out is few =
     let whole : take (2 ^ 32 - id) vals ≡ vals = take-all (2 ^ 32 - id) vals (omega arith) in
     record {
       count = ap (λ f. f .count) is ∙ ap (λ l. length (matchingIds lo hi id l)) whole;
-      left = ap (λ f. f .left) is ∙ ap (λ l. atStart (matchingIds lo hi id l) vals) whole
+      left = ap (λ f. f .left) is ∙ ap (λ l. atStart (matchingIds lo hi id l) vals) whole;
     }
 
 -- the ids are the front of what is left
@@ -99,18 +101,37 @@ pub kept-more : {found : ℕ} {ids more before : List ℕ} {r₁ : ℕ} {middle 
 kept-more {found} {ids} {more} {before} within first second =
     record {
       count = omega (arith, first .count, second .count, length-append ids more);
-      pasted = second .pasted ∙ ap₂ (λ n l. pastedAt n more l) (first .count) (first .pasted) ∙ paste-paste found ids more before within
+      pasted = second .pasted ∙ ap₂ (λ n l. pastedAt n more l) (first .count) (first .pasted) ∙ paste-paste found ids more before within;
     }
 
--- nothing kept yet
+-- no ids kept
+pub kept-empty : (found : ℕ) {ids : List ℕ} (positions : List ℕ) → ids ≡ [] → Kept found ids positions found positions
+kept-empty found positions none =
+    record {
+      count = sym (ap (λ l. found + length l) none ∙ add-zero found);
+      pasted = sym (ap (λ l. pastedAt found l positions) none ∙ paste-none found positions);
+    }
+
 pub kept-none : (w lo hi at found : ℕ) (bs positions : List ℕ) → Kept found (idsOf w lo hi at at bs) positions found positions
 unfolding idsOf valuesFrom matchingIds
 kept-none w lo hi at found bs positions =
-    let none : idsOf w lo hi at at bs ≡ [] = ap (λ n. matchingIds lo hi at (valuesFrom w at n bs)) (sub-self at) in
-    record {
-      count = sym (ap (λ l. found + length l) none ∙ add-zero found);
-      pasted = sym (ap (λ l. pastedAt found l positions) none ∙ paste-none found positions)
-    }
+    kept-empty found positions (ap (λ n. matchingIds lo hi at (valuesFrom w at n bs)) (sub-self at))
+
+-- ---- values of up to 32 bits
+
+module _ (w : ℕ) (narrow : w ≤ 32) (lo hi from to : ℕ) (bs : List ℕ) where
+  small : (i : ℕ) → getD (valuesFrom w from (to - from) bs) i 0 < 2 ^ 32
+  small i = lt-of-lt-of-le (valuesFrom-lt w from (to - from) bs i) (pow-mono narrow)
+
+  -- a lower end above 32 bits matches none of them
+  pub none-narrow : 2 ^ 32 ≤ lo → idsOf w lo hi from to bs ≡ []
+  unfolding idsOf
+  none-narrow high = none-above lo hi from (valuesFrom w from (to - from) bs) (λ i. lt-of-lt-of-le (small i) high)
+
+  -- an upper end above 32 bits may be brought down
+  pub narrow-cut : idsOf w lo (min hi (2 ^ 32 - 1)) from to bs ≡ idsOf w lo hi from to bs
+  unfolding idsOf
+  narrow-cut = hi-cut lo hi (2 ^ 32 - 1) from (valuesFrom w from (to - from) bs) (λ i. let below = small i in omega arith)
 
 pub ids-le : (w lo hi from to : ℕ) (bs : List ℕ) → length (idsOf w lo hi from to bs) ≤ to - from
 unfolding idsOf
@@ -146,5 +167,11 @@ highway-goes-on {w} {lo} {hi} {end} {on} {bs} {at} here more room batch same =
       within = omega arith;
       on-byte = λ further. omega (arith, here .on-byte more);
       kept = kept-same (ids-add w lo hi on at (at + 32) bs (here .onwards) (omega arith)) (kept-more room (here .kept) batch);
-      same = same ∙ here .same
+      same = same ∙ here .same;
     }
+
+-- ---- the answer
+
+pub kept-answer : {ids before : List ℕ} {r : ℕ} {after : List ℕ} → Kept 0 ids before r after → search (Ids r) after ≡ search (Ids (length ids)) (atStart ids before)
+kept-answer {ids} {before} kept =
+    ap₂ (λ n l. search (Ids n) l) (kept .count ∙ zero-add (length ids)) (kept .pasted ∙ paste-first ids before)

@@ -5,7 +5,7 @@ use crate::bits::bits_at;
 use filter_vec::filter_vec_in_place;
 ghost use mathlib.Core.Path.{_≡_};
 ghost use mathlib.Core.Bool.{true};
-ghost use Prim.Native.Nat.{_+_, _-_, _*_, _%_, _^_, _≤_, _<_};
+ghost use Prim.Native.Nat.{_+_, _-_, _*_, _%_, _^_, _≤_, _<_, min};
 ghost use lib.ListN.{length};
 ghost use Rattle.bit_rule.specs.Place.{valuesFrom};
 ghost use Rattle.bit_rule.specs.Search.{liesBetween, matchingIds, atStart, pastedAt};
@@ -217,6 +217,17 @@ fn lies_between(lo: u64, hi: u64, value: u64) -> bool
     lo <= value && value <= hi
 }
 
+// An upper end brought down to the largest that a value of 32 bits can be.
+fn at_most_u32(hi: u64) -> u32
+    ensures { λ r. ⌜ r ≡ min hi (2 ^ 32 - 1) ⌝ }
+{
+    if hi < 0xffff_ffff {
+        hi as u32
+    } else {
+        0xffff_ffff
+    }
+}
+
 // The ids from start to before end whose value lies in lo..=hi, ascending, at the start of the
 // positions, and how many they are.
 pub(crate) fn find(
@@ -238,6 +249,13 @@ pub(crate) fn find(
     if 0xffff_ffff < lo {
         return 0;
     }
-    let top = if hi < 0xffff_ffff { hi } else { 0xffff_ffff };
-    find_narrow(unpacker, lo as u32, top as u32, start, end, data, positions)
+    find_narrow(
+        unpacker,
+        lo as u32,
+        at_most_u32(hi),
+        start,
+        end,
+        data,
+        positions,
+    )
 }

@@ -27,10 +27,11 @@ start-of c = c .before .before .before .before .before
 few : (c : tie.After-ramp Inv-loop μ-loop) → c .ramp .result ≤ c .before .before .ramp-end .result - start-of c .args .start
 few c =
     let start = start-of c in
-    omega
-    (arith,
-    c .ramp .ensures .count,
-    ids-le (start .args .unpacker .«num_bits») (start .args .lo) (start .args .hi) (start .args .start) (c .before .before .ramp-end .result) (start .args .«data» .now))
+    omega (
+      arith,
+      c .ramp .ensures .count,
+      ids-le (start .args .unpacker .«num_bits») (start .args .lo) (start .args .hi) (start .args .start) (c .before .before .ramp-end .result) (start .args .«data» .now),
+    )
 
 -- the ramp leaves the positions as long as they were
 ramp-same : (c : tie.After-ramp Inv-loop μ-loop) → length (c .ramp .last .1 .1 .1 .1 .1 .1 .0) ≡ length (start-of c .args .positions .now)
@@ -45,16 +46,17 @@ room-left : (c : tie.At-loop Inv-loop μ-loop) → c .loop .found + (start-of (r
 room-left c =
     let ramped = ramped-of c in
     let inv = c .loop .inv in
-    omega
-    (arith,
-    few-on-highway inv,
-    few ramped,
-    inv .onwards,
-    inv .within,
-    inv .same,
-    ramp-same ramped,
-    ramped .before .before .ramp-end .ensures .0,
-    start-of ramped .pre .1 .1 .1)
+    omega (
+      arith,
+      few-on-highway inv,
+      few ramped,
+      inv .onwards,
+      inv .within,
+      inv .same,
+      ramp-same ramped,
+      ramped .before .before .ramp-end .ensures .0,
+      start-of ramped .pre .1 .1 .1,
+    )
 
 ramp-end-requires : tie.Need-ramp-end-requires Inv-loop μ-loop
 ramp-end-requires c κs = c .before .before .pre .1 .1 .0
@@ -62,9 +64,10 @@ ramp-end-requires c κs = c .before .before .pre .1 .1 .0
 ramp-requires : tie.Need-ramp-requires Inv-loop μ-loop
 ramp-requires c κs =
     let start = c .before .before .before .before in
-    let ends = c .before .ramp-end .ensures in
-    (in-data-less _ (ends .1) (start .pre .0),
-    (start .pre .1 .0, (ends .0, ends .2, omega (arith, ends .1, start .pre .1 .1 .1))))
+    let ends = c .before .ramp-end .ensures in (
+      in-data-less _ (ends .1) (start .pre .0),
+      (start .pre .1 .0, (ends .0, ends .2, omega (arith, ends .1, start .pre .1 .1 .1))),
+    )
 
 loop-holds : tie.Need-loop-holds Inv-loop μ-loop
 loop-holds c =
@@ -80,9 +83,10 @@ highway-batch-requires c κs =
     let at-loop = c .before .before in
     let start = start-of (ramped-of at-loop) in
     let more = c .before .loop-test .taken in
-    let within : at-loop .loop .at + 32 ≤ start .args .end = omega (arith, more) in
-    (in-data-less _ within (start .pre .0),
-    (start .pre .1 .0, (at-loop .loop .inv .on-byte more, omega (arith, start .fits .end), omega (arith, room-left at-loop, more))))
+    let within : at-loop .loop .at + 32 ≤ start .args .end = omega (arith, more) in (
+      in-data-less _ within (start .pre .0),
+      (start .pre .1 .0, (at-loop .loop .inv .on-byte more, omega (arith, start .fits .end), omega (arith, room-left at-loop, more))),
+    )
 
 add-at : tie.Need-add-at Inv-loop μ-loop
 add-at c =

@@ -62,7 +62,7 @@ returns c =
       count = ap (λ n. found + n) (left filtered .count);
       pasted =
           c .before .before .append .ensures
-          ∙ ap (λ ids. pastedAt found ids (start-of filtered .args .positions .now)) (front _ _ _ _ (left filtered))
+          ∙ ap (λ ids. pastedAt found ids (start-of filtered .args .positions .now)) (front _ _ _ _ (left filtered));
     }
 
 pub keep-spec : {M : Type 1} → statement M

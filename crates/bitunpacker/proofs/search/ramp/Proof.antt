@@ -34,9 +34,10 @@ decode-and-keep-requires : tie.Need-decode-and-keep-requires
 decode-and-keep-requires c κs =
     let start = c .before .before .before .before in
     let in-data = start .pre .0 in
-    let inside = subst (λ n. n * start .args .unpacker .«num_bits» ≤ 8 * length (start .args .«data» .now)) (sym (batch-ends start)) (in-data .inside) in
-    (record { sound = in-data .sound; few = omega (arith, batch-ends start, in-data .few); inside = inside },
-    (start .pre .1 .0, (omega (arith, batch-ends start, start .fits .to), omega (arith, batch-length start, start .pre .1 .1 .2))))
+    let inside = subst (λ n. n * start .args .unpacker .«num_bits» ≤ 8 * length (start .args .«data» .now)) (sym (batch-ends start)) (in-data .inside) in (
+      record { sound = in-data .sound; few = omega (arith, batch-ends start, in-data .few); inside = inside },
+      (start .pre .1 .0, (omega (arith, batch-ends start, start .fits .to), omega (arith, batch-length start, start .pre .1 .1 .2))),
+    )
 
 same-length : tie.Need-same-length
 same-length c = search needs
