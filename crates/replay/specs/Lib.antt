@@ -1,0 +1,2 @@
+-- What the contracts of a line's reading cite.
+pub mod Line

@@ -1,0 +1,39 @@
+//! Numbers that look random and follow from a seed: the generator SplitMix64.
+
+pub struct Draw {
+    state: u64,
+}
+
+impl Draw {
+    /// One sequence for each seed and kind.
+    pub fn new(seed: u64, kind: &str) -> Draw {
+        let mut draw = Draw { state: seed };
+        for byte in kind.bytes() {
+            draw.state = draw.word() ^ u64::from(byte);
+        }
+        draw
+    }
+
+    pub fn word(&mut self) -> u64 {
+        self.state = self.state.wrapping_add(0x9e37_79b9_7f4a_7c15);
+        let mut z = self.state;
+        z = (z ^ (z >> 30)).wrapping_mul(0xbf58_476d_1ce4_e5b9);
+        z = (z ^ (z >> 27)).wrapping_mul(0x94d0_49bb_1331_11eb);
+        z ^ (z >> 31)
+    }
+
+    /// A number below n, which is not 0.
+    pub fn below(&mut self, n: u64) -> u64 {
+        self.word() % n
+    }
+
+    /// A number of 0 to 64 bits, each width as likely as another.
+    pub fn any_width(&mut self) -> u64 {
+        let bits = self.below(65) as u32;
+        self.word().checked_shr(64 - bits).unwrap_or(0)
+    }
+
+    pub fn one_of(&mut self, words: &[u64]) -> u64 {
+        words[self.below(words.len() as u64) as usize]
+    }
+}

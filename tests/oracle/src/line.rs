@@ -1,0 +1,11 @@
+//! One case to a line: the kind's word, then numbers in hexadecimal, each after one space.
+
+use std::io::{self, Write};
+
+pub fn write(out: &mut impl Write, kind: &str, question: &[u64], answer: &[u64]) -> io::Result<()> {
+    out.write_all(kind.as_bytes())?;
+    for number in question.iter().chain(answer) {
+        write!(out, " {number:x}")?;
+    }
+    out.write_all(b"\n")
+}

@@ -1,0 +1,56 @@
+//! Writes cases with the Rust's answers, for the program `replay` to run through the port:
+//!
+//!     oracle SEED KIND COUNT [KIND COUNT ..]
+//!
+//! The same words give the same lines. tests/README.md has their form.
+
+mod draw;
+mod line;
+mod minmax;
+mod width;
+
+use std::io::{self, BufWriter, Write};
+
+use draw::Draw;
+
+fn main() {
+    let words: Vec<String> = std::env::args().skip(1).collect();
+    let Some((seed, kinds)) = words.split_first() else {
+        fail("oracle SEED KIND COUNT [KIND COUNT ..]");
+    };
+    let seed = number(seed);
+    let mut out = BufWriter::new(io::stdout().lock());
+    let mut lines = 1;
+    for pair in kinds.chunks(2) {
+        let [kind, count] = pair else {
+            fail("each kind has a count");
+        };
+        let count = number(count);
+        write_kind(kind, count, Draw::new(seed, kind), &mut out)
+            .expect("the cases cannot be written");
+        lines += count;
+    }
+    writeln!(out, "end {lines:x}")
+        .and_then(|()| out.flush())
+        .expect("the cases cannot be written");
+}
+
+/// A kind's cases come from a sequence of their own, so that they stay the same beside other kinds.
+fn write_kind(kind: &str, count: u64, draw: Draw, out: &mut impl Write) -> io::Result<()> {
+    match kind {
+        "width" => width::write(count, draw, out),
+        "minmax" => minmax::write_u64(count, draw, out),
+        "minmaxf" => minmax::write_f64(count, draw, out),
+        _ => fail(&format!("there is no kind {kind}")),
+    }
+}
+
+fn number(word: &str) -> u64 {
+    word.parse()
+        .unwrap_or_else(|_| fail(&format!("{word} is not a number")))
+}
+
+fn fail(why: &str) -> ! {
+    eprintln!("oracle: {why}");
+    std::process::exit(2)
+}
