@@ -1,0 +1,3 @@
+-- The blocked store: what a store is in its areas, and what each call answers and leaves.
+pub mod Store
+pub mod Calls
