@@ -4,3 +4,4 @@ pub mod Stream
 pub mod Place
 pub mod Width
 pub mod Search
+pub mod Parts

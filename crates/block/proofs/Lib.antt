@@ -1,0 +1,4 @@
+-- The laws of one block: of packing it, of sealing it, and of reading it back.
+pub mod Packing
+pub mod SealingLaws
+pub mod Reading
