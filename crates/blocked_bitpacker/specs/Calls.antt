@@ -1,7 +1,7 @@
 -- What each call on a store answers, and what the store and both areas are then. Each has document 01's list of checks in its order:
 -- "add: 8, 6, 5, 4. Flush of a store: 8, nothing waiting succeeds, 5, 4. Store get: 8 (store), 7, 8 (entry). Store range and search: 8
 -- (store), empty succeeds, 7, then for search 4, then 8 over every touched entry before anything is written."
-use Prim.Native.Nat.{ℕ, _+_, _-_, _*_}
+use Prim.Native.Nat.{ℕ, _+_, _-_, _*_, _/_}
 use mathlib.Core.Bool.{Bool, not, _||_, _&&_, cond}
 use mathlib.Core.List.{List, [], _∷_, _++_}
 use lib.Dec.{leb, ltb, eqb}
@@ -42,11 +42,19 @@ answered done s = record { done = done; store = s }
 abbrev pub refusedCall : Refusal → BlockedBitpacker → List ℕ → List ℕ → Changed
 refusedCall why s bytes entries = changed (answered (Refused why) s) bytes entries
 
--- Making a store: "eight zero bytes at the start of the byte area"; refused 4 on fewer than 8, and then a fresh store is carried.
-unfoldable pub newOf : List ℕ → List ℕ → Changed
-newOf bytes entries =
-    firstThatHolds (check (ltb (length bytes) 8) (refusedCall NoRoom freshStore bytes entries) ∷ [])
-    (changed (answered Accepted freshStore) (atStart eightZeros bytes) entries)
+-- What making a store answers, and what the byte area then holds.
+pub record Made : Type 0 where
+  pub stored : Stored
+  pub bytes : List ℕ
+
+abbrev pub made : Stored → List ℕ → Made
+made r bytes = record { stored = r; bytes = bytes }
+
+-- "eight zero bytes at the start of the byte area"; refused 4 on fewer than 8 bytes, "and then the answer carries a fresh store".
+unfoldable pub newOf : List ℕ → Made
+newOf bytes =
+    firstThatHolds (check (ltb (length bytes) 8) (made (answered (Refused NoRoom) freshStore) bytes) ∷ [])
+    (made (answered Accepted freshStore) (atStart eightZeros bytes))
 
 -- The values that wait.
 abbrev pub waitingValues : BlockedBitpacker → List ℕ
@@ -68,6 +76,15 @@ sealed s vs last bytes entries =
     (answered Accepted (storeOf noneWaiting (s .used + blockSize vs) (s .blocks + 1) 0 last))
     (pastedAt (s .used) (blockBytes vs ++ eightZeros) bytes)
     (pastedAt (wordsPerEntry * s .blocks) (entryWords (s .used) vs) entries)
+
+-- A seal is refused 5, then 4.
+unfoldable pub sealOrRefuse : BlockedBitpacker → List ℕ → ℕ → List ℕ → List ℕ → Changed
+sealOrRefuse s vs last bytes entries =
+    firstThatHolds
+    (check (entriesFull s entries) (refusedCall EntriesFull s bytes entries)
+    ∷ check (noRoomForBlock s vs bytes) (refusedCall NoRoom s bytes entries)
+    ∷ [])
+    (sealed s vs last bytes entries)
 
 -- One more value waits.
 abbrev pub waits : BlockedBitpacker → ℕ → BlockedBitpacker
@@ -108,7 +125,7 @@ getOf s i bytes entries =
     firstThatHolds
     (check (damagedStore s (length bytes) (length entries)) (NotGot Damaged)
     ∷ check (leb (countOf s) i) (NotGot NoSuchIndex)
-    ∷ check (inBlock s i && damagedEntry (s .used) (lengthOfBlock s (Prim.Native.Nat._/_ i 128)) (Prim.Native.Nat._/_ i 128) entries) (NotGot Damaged)
+    ∷ check (inBlock s i && damagedEntry (s .used) (lengthOfBlock s (i / 128)) (i / 128) entries) (NotGot Damaged)
     ∷ [])
     (Value (valueOf s bytes entries i))
 

@@ -1,6 +1,7 @@
 -- Document 01, "The blocked store": what a store is, in the two areas that are lent with it.
-use Prim.Native.Nat.{ℕ, _+_, _-_, _*_, _/_, _%_, _≤_}
-use mathlib.Core.Bool.{Bool, not, _||_, _&&_, cond}
+use mathlib.Core.Path.{_≡_}
+use Prim.Native.Nat.{ℕ, zero, suc, _+_, _-_, _*_, _/_, _%_, _≤_, _<_, min}
+use mathlib.Core.Bool.{Bool, false, not, _||_, _&&_, cond}
 use mathlib.Core.List.{List, [], _∷_, _++_}
 use lib.Dec.{leb, ltb, eqb}
 use lib.ListN.{length, getD, replicate}
@@ -41,6 +42,14 @@ damagedStore s byteArea entryArea =
     || ltb 127 (s .«last_length»)
     || (isClosed s && (ltb 0 (s .waiting) || eqb (s .blocks) 0))
 
+-- What holds of a store that is not damaged, whatever its areas: its counts are small.
+pub record SoundIn (s : BlockedBitpacker) : Type 0 where
+  pub few-waiting : s .waiting ≤ 127
+  pub few-blocks : s .blocks ≤ blockLimit
+  pub short-last : s .«last_length» ≤ 127
+  pub used-bound : s .used ≤ 1024 * s .blocks
+  pub closed-alone : 0 < s .«last_length» → (s .waiting ≡ 0) × (0 < s .blocks)
+
 -- "Count: 128 * blocks + waiting while open; 128 * (blocks - 1) + last length when closed."
 unfoldable pub countOf : BlockedBitpacker → ℕ
 countOf s = cond (isClosed s) (128 * (s .blocks - 1) + s .«last_length») (128 * s .blocks + s .waiting)
@@ -60,16 +69,16 @@ valueOf s bytes entries i =
 
 -- The values from an index on.
 unfoldable pub valuesOf : BlockedBitpacker → List ℕ → List ℕ → ℕ → ℕ → List ℕ
-valuesOf s bytes entries i ℕ.zero = []
-valuesOf s bytes entries i (ℕ.suc n) = valueOf s bytes entries i ∷ valuesOf s bytes entries (i + 1) n
+valuesOf s bytes entries i zero = []
+valuesOf s bytes entries i (suc n) = valueOf s bytes entries i ∷ valuesOf s bytes entries (i + 1) n
 
 -- Whether one of n blocks from block k on is damaged.
 unfoldable pub damagedBlocks : BlockedBitpacker → List ℕ → ℕ → ℕ → Bool
-damagedBlocks s entries k ℕ.zero = Bool.false
-damagedBlocks s entries k (ℕ.suc n) = damagedEntry (s .used) (lengthOfBlock s k) k entries || damagedBlocks s entries (k + 1) n
+damagedBlocks s entries k zero = false
+damagedBlocks s entries k (suc n) = damagedEntry (s .used) (lengthOfBlock s k) k entries || damagedBlocks s entries (k + 1) n
 
 -- The blocks that hold one of the indexes from start to before end, which is above start: from the block of `start` to that of the last
 -- index, but none that are not there.
 unfoldable pub touchedDamaged : BlockedBitpacker → List ℕ → ℕ → ℕ → Bool
 touchedDamaged s entries start end =
-    damagedBlocks s entries (start / 128) (Prim.Native.Nat.min ((end + 127) / 128) (s .blocks) - start / 128)
+    damagedBlocks s entries (start / 128) (min ((end + 127) / 128) (s .blocks) - start / 128)

@@ -1,7 +1,17 @@
-// A column that grows: values wait until 128 are there and are then packed as a block. The store is a
+// A column that grows: values wait until 128 are there and are then sealed as a block. The store is a
 // value; its two areas, bytes and entry words, are lent at each call. `BlockedBitpacker` of the Rust's
 // src/blocked_bitpacker.rs.
+mod reading;
+
+use bitunpacker::Got;
+use block::Sealing;
 use refusal::Refusal;
+ghost use mathlib.Core.Path.{_≡_};
+ghost use mathlib.Core.Bool.{false};
+ghost use Prim.Native.Nat.{_≤_};
+ghost use lib.ListN.{length};
+ghost use Rattle.blocked_bitpacker.specs.Store.{SoundIn, freshStore, damagedStore, countOf};
+ghost use Rattle.blocked_bitpacker.specs.Calls.{made, newOf, changed, sealOrRefuse, addOf, flushOf, countedOf, getOf};
 
 // The waiting values beside how many bytes and blocks are used, how many values wait, and, once a
 // flush has closed the store, how many values its last block has.
@@ -29,4 +39,192 @@ pub struct Stored {
 pub enum Counted {
     Count(usize),
     Refused(Refusal),
+}
+
+impl BlockedBitpacker {
+    // How many values a block holds, and how many blocks a store.
+    pub const BLOCK_SIZE: usize = 128;
+
+    pub const MAX_BLOCKS: usize = 16_777_216;
+
+    fn fresh() -> BlockedBitpacker
+        ensures { λ r. ⌜ r ≡ freshStore ⌝ }
+    {
+        BlockedBitpacker {
+            buffer: [0; 128],
+            used: 0,
+            blocks: 0,
+            waiting: 0,
+            last_length: 0,
+        }
+    }
+
+    // A store with nothing in it, whose byte area starts with eight zeros.
+    pub fn new(bytes: &mut [u8]) -> Stored
+        ensures { λ r. ⌜ made r (now (bytes .exit)) ≡ newOf (now (bytes .entry)) ⌝ }
+    {
+        let store = BlockedBitpacker::fresh();
+        if bytes.len() < 8 {
+            return Stored {
+                done: Done::Refused(Refusal::NoRoom),
+                store,
+            };
+        }
+        block::clear_eight(bytes);
+        Stored {
+            done: Done::Accepted,
+            store,
+        }
+    }
+
+    // Document 01's "Damaged", of a store in areas of so many bytes and entry words.
+    fn is_damaged(self, byte_area: usize, entry_area: usize) -> bool
+        ensures { λ r. ⌜ r ≡ damagedStore self «byte_area» «entry_area» ⌝ }
+    {
+        if 127 < self.waiting {
+            return true;
+        }
+        if BlockedBitpacker::MAX_BLOCKS < self.blocks {
+            return true;
+        }
+        if 1024 * self.blocks < self.used {
+            return true;
+        }
+        if byte_area < self.used + 8 {
+            return true;
+        }
+        if entry_area < 2 * self.blocks {
+            return true;
+        }
+        if 127 < self.last_length {
+            return true;
+        }
+        if self.last_length == 0 {
+            return false;
+        }
+        if 0 < self.waiting {
+            return true;
+        }
+        self.blocks == 0
+    }
+
+    // How many values a store that is not damaged holds.
+    fn accepted(self) -> usize
+        requires { ⌜ SoundIn self ⌝ }
+        ensures { λ r. ⌜ r ≡ countOf self ⌝ }
+    {
+        if 0 < self.last_length {
+            return 128 * (self.blocks - 1) + self.last_length;
+        }
+        128 * self.blocks + self.waiting
+    }
+
+    // How many values were accepted.
+    pub fn count(self, bytes: &[u8], entries: &[u64]) -> Counted
+        ensures { λ r. ⌜ r ≡ countedOf self (now (bytes .entry)) (now (entries .entry)) ⌝ }
+    {
+        if self.is_damaged(bytes.len(), entries.len()) {
+            return Counted::Refused(Refusal::Damaged);
+        }
+        Counted::Count(self.accepted())
+    }
+
+    // Seals some values as a block behind the others, with the last length that the store then has.
+    fn seal(
+        self,
+        values: &[u64],
+        last_length: usize,
+        bytes: &mut [u8],
+        entries: &mut [u64],
+    ) -> Stored
+        requires { ⌜ damagedStore self (length (now bytes)) (length (now entries)) ≡ false ⌝ }
+        ensures { λ r. ⌜ changed r (now (bytes .exit)) (now (entries .exit)) ≡ sealOrRefuse self (now (values .entry)) «last_length» (now (bytes .entry)) (now (entries .entry)) ⌝ }
+    {
+        let used = self.used;
+        let blocks = self.blocks;
+        if BlockedBitpacker::MAX_BLOCKS <= blocks {
+            return Stored {
+                done: Done::Refused(Refusal::EntriesFull),
+                store: self,
+            };
+        }
+        let at = 2 * blocks;
+        if entries.len() < at + 2 {
+            return Stored {
+                done: Done::Refused(Refusal::EntriesFull),
+                store: self,
+            };
+        }
+        match block::seal(values, &mut bytes[used..]) {
+            Sealing::Refused(why) => Stored {
+                done: Done::Refused(why),
+                store: self,
+            },
+            Sealing::Sealed(base, width, size) => {
+                entries[at] = used as u64 + width as u64 * 0x100_0000_0000_0000;
+                entries[at + 1] = base;
+                Stored {
+                    done: Done::Accepted,
+                    store: BlockedBitpacker {
+                        buffer: [0; 128],
+                        used: used + size,
+                        blocks: blocks + 1,
+                        waiting: 0,
+                        last_length,
+                    },
+                }
+            }
+        }
+    }
+
+    // Adds a value. The 128th waiting one seals a block.
+    pub fn add(self, val: u64, bytes: &mut [u8], entries: &mut [u64]) -> Stored
+        ensures { λ r. ⌜ changed r (now (bytes .exit)) (now (entries .exit)) ≡ addOf self val (now (bytes .entry)) (now (entries .entry)) ⌝ }
+    {
+        if self.is_damaged(bytes.len(), entries.len()) {
+            return Stored {
+                done: Done::Refused(Refusal::Damaged),
+                store: self,
+            };
+        }
+        if 0 < self.last_length {
+            return Stored {
+                done: Done::Refused(Refusal::Closed),
+                store: self,
+            };
+        }
+        let waiting = self.waiting;
+        let mut next = self;
+        next.buffer[waiting] = val;
+        next.waiting = waiting + 1;
+        if waiting < 127 {
+            return Stored {
+                done: Done::Accepted,
+                store: next,
+            };
+        }
+        let values = next.buffer;
+        self.seal(&values, 0, bytes, entries)
+    }
+
+    // Seals what waits, and closes the store.
+    pub fn flush(self, bytes: &mut [u8], entries: &mut [u64]) -> Stored
+        ensures { λ r. ⌜ changed r (now (bytes .exit)) (now (entries .exit)) ≡ flushOf self (now (bytes .entry)) (now (entries .entry)) ⌝ }
+    {
+        if self.is_damaged(bytes.len(), entries.len()) {
+            return Stored {
+                done: Done::Refused(Refusal::Damaged),
+                store: self,
+            };
+        }
+        let waiting = self.waiting;
+        if waiting == 0 {
+            return Stored {
+                done: Done::Accepted,
+                store: self,
+            };
+        }
+        let values = self.buffer;
+        self.seal(&values[..waiting], waiting, bytes, entries)
+    }
 }
