@@ -14,6 +14,9 @@ restFrom a xs = midOf a (length xs - a) xs
 pub restFrom-is : (a : ℕ) (xs : List ℕ) → restFrom a xs ≡ drop a xs
 restFrom-is a xs = take-all (length xs - a) (drop a xs) (simp length-drop (omega arith))
 
+pub length-restFrom : (a : ℕ) (xs : List ℕ) → length (restFrom a xs) ≡ length xs - a
+length-restFrom a xs = ap length (restFrom-is a xs) ∙ length-drop a xs
+
 -- other elements in its place
 pub put-rest : (a : ℕ) (xs ys : List ℕ) → a ≤ length xs → putMid a (length xs - a) xs ys ≡ take a xs ++ ys
 put-rest a xs ys within =

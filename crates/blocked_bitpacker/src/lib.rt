@@ -1,7 +1,6 @@
 // A column that grows: values wait until 128 are there and are then sealed as a block. The store is a
 // value; its two areas, bytes and entry words, are lent at each call. `BlockedBitpacker` of the Rust's
 // src/blocked_bitpacker.rs.
-mod reading;
 
 use bitunpacker::Got;
 use block::Sealing;
