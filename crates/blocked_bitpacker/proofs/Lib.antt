@@ -1,0 +1,2 @@
+-- The laws of reading a store.
+pub mod ReadingLaws
