@@ -1,2 +1,3 @@
 -- The laws of reading a store.
+pub mod Judged
 pub mod ReadingLaws

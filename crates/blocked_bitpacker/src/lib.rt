@@ -5,6 +5,7 @@ mod reading;
 
 use bitunpacker::Got;
 use block::Sealing;
+use reading::get_in_block;
 use refusal::Refusal;
 ghost use mathlib.Core.Path.{_≡_};
 ghost use mathlib.Core.Bool.{false};
@@ -226,5 +227,23 @@ impl BlockedBitpacker {
         }
         let values = self.buffer;
         self.seal(&values[..waiting], waiting, bytes, entries)
+    }
+
+    // The value at an index.
+    pub fn get(self, idx: usize, bytes: &[u8], entries: &[u64]) -> Got
+        ensures { λ r. ⌜ r ≡ getOf self idx (now (bytes .entry)) (now (entries .entry)) ⌝ }
+    {
+        if self.is_damaged(bytes.len(), entries.len()) {
+            return Got::Refused(Refusal::Damaged);
+        }
+        if self.accepted() <= idx {
+            return Got::Refused(Refusal::NoSuchIndex);
+        }
+        let block = idx / BlockedBitpacker::BLOCK_SIZE;
+        let place = idx % BlockedBitpacker::BLOCK_SIZE;
+        if block < self.blocks {
+            return get_in_block(self, block, place, bytes, entries);
+        }
+        Got::Value(self.buffer[place])
     }
 }

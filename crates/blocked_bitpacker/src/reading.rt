@@ -1,12 +1,16 @@
 // Reads a store that was judged: entries, and which of them are damaged.
 use crate::BlockedBitpacker;
 use bitunpacker::BitUnpacker;
+use bitunpacker::Got;
 use bitunpacker::Made;
+use refusal::Refusal;
 ghost use mathlib.Core.Path.{_≡_};
+ghost use mathlib.Core.Bool.{false};
 ghost use Prim.Native.Nat.{_+_, _*_, _≤_, _<_};
 ghost use lib.ListN.{length};
 ghost use Rattle.block.specs.Block.{entryOffset, entryWidth, entryBase, damagedEntry};
-ghost use Rattle.blocked_bitpacker.specs.Store.{SoundIn, lengthOfBlock};
+ghost use Rattle.blocked_bitpacker.specs.Store.{SoundIn, damagedStore, lengthOfBlock};
+ghost use Rattle.blocked_bitpacker.specs.Parts.{blockGot};
 
 // What the two words of an entry say.
 pub(crate) struct Entry {
@@ -53,4 +57,25 @@ pub(crate) fn entry_is_damaged(store: BlockedBitpacker, k: usize, entries: &[u64
         Made::Refused(_) => true,
         Made::Unpacker(_) => store.used < entry.offset + (n * width + 7) / 8,
     }
+}
+
+// The value at a place of block k, unless its entry is damaged.
+pub(crate) fn get_in_block(
+    store: BlockedBitpacker,
+    k: usize,
+    place: usize,
+    bytes: &[u8],
+    entries: &[u64],
+) -> Got
+    requires { ⌜ damagedStore store (length (now bytes)) (length (now entries)) ≡ false ⌝ }
+    requires { ⌜ (k < store .blocks) × (place < lengthOfBlock store k) ⌝ }
+    ensures { λ r. ⌜ r ≡ blockGot store k place (now (bytes .entry)) (now (entries .entry)) ⌝ }
+{
+    if entry_is_damaged(store, k, entries) {
+        return Got::Refused(Refusal::Damaged);
+    }
+    let entry = entry_at(entries, k);
+    let offset = entry.offset;
+    let width = entry.width as u8;
+    block::read_one(entry.base, width, place as u32, &bytes[offset..])
 }
