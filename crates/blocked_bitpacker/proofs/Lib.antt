@@ -1,3 +1,4 @@
 -- The laws of reading a store.
 pub mod Judged
 pub mod ReadingLaws
+pub mod Values

@@ -6,11 +6,11 @@ use bitunpacker::Made;
 use refusal::Refusal;
 ghost use mathlib.Core.Path.{_≡_};
 ghost use mathlib.Core.Bool.{false};
-ghost use Prim.Native.Nat.{_+_, _*_, _≤_, _<_};
-ghost use lib.ListN.{length};
+ghost use Prim.Native.Nat.{ℕ, _+_, _-_, _*_, _/_, _%_, _^_, _≤_, _<_, min};
+ghost use lib.ListN.{length, getD};
 ghost use Rattle.block.specs.Block.{entryOffset, entryWidth, entryBase, damagedEntry};
-ghost use Rattle.blocked_bitpacker.specs.Store.{SoundIn, damagedStore, lengthOfBlock};
-ghost use Rattle.blocked_bitpacker.specs.Parts.{blockGot};
+ghost use Rattle.blocked_bitpacker.specs.Store.{SoundIn, damagedStore, countOf, lengthOfBlock, valuesOf, touchedDamaged};
+ghost use Rattle.blocked_bitpacker.specs.Parts.{blockGot, Stretch};
 
 // What the two words of an entry say.
 pub(crate) struct Entry {
@@ -78,4 +78,105 @@ pub(crate) fn get_in_block(
     let offset = entry.offset;
     let width = entry.width as u8;
     block::read_one(entry.base, width, place as u32, &bytes[offset..])
+}
+
+// Where the blocks end that hold an index before the end.
+fn blocks_before(store: BlockedBitpacker, end: usize) -> usize
+    requires { ⌜ end < 2 ^ 63 ⌝ }
+    ensures { λ r. ⌜ r ≡ min ((end + 127) / 128) (store .blocks) ⌝ }
+{
+    let blocks = (end + 127) / 128;
+    if blocks < store.blocks {
+        blocks
+    } else {
+        store.blocks
+    }
+}
+
+// Whether a block that holds an index from start to before end has a damaged entry.
+pub(crate) fn touches_damage(
+    store: BlockedBitpacker,
+    start: usize,
+    end: usize,
+    entries: &[u64],
+) -> bool
+    requires { ⌜ SoundIn store × (2 * store .blocks ≤ length (now entries)) × (end ≤ countOf store) ⌝ }
+    ensures { λ r. ⌜ r ≡ touchedDamaged store (now (entries .entry)) start end ⌝ }
+{
+    let last = blocks_before(store, end);
+    let mut k = start / 128;
+    while k < last {
+        if entry_is_damaged(store, k, entries) {
+            return true;
+        }
+        k += 1;
+    }
+    false
+}
+
+// Copies waiting values from a place on.
+fn copy_waiting(store: BlockedBitpacker, place: usize, output: &mut [u64])
+    requires { ⌜ place + length (now output) ≤ 128 ⌝ }
+    ensures { λ _. ⌜ ((j : ℕ) → j < length (now (output .entry)) → getD (now (output .exit)) j 0 ≡ getD (store .buffer) (place + j) 0) ⌝ }
+{
+    let mut i = 0;
+    while i < output.len() {
+        output[i] = store.buffer[place + i];
+        i += 1;
+    }
+}
+
+// Fills the output with the values from an index on, all of which lie in one block or wait.
+fn read_stretch(
+    store: BlockedBitpacker,
+    idx: usize,
+    bytes: &[u8],
+    entries: &[u64],
+    output: &mut [u64],
+)
+    requires { ⌜ damagedStore store (length (now bytes)) (length (now entries)) ≡ false ⌝ }
+    requires { ⌜ Stretch store idx (length (now output)) (now entries) ⌝ }
+    ensures { λ _. ⌜ now (output .exit) ≡ valuesOf store (now (bytes .entry)) (now (entries .entry)) idx (length (now (output .entry))) ⌝ }
+{
+    let k = idx / 128;
+    let place = idx % 128;
+    if store.blocks <= k {
+        copy_waiting(store, place, output);
+        return;
+    }
+    let entry = entry_at(entries, k);
+    let offset = entry.offset;
+    let width = entry.width as u8;
+    block::read(entry.base, width, place as u32, &bytes[offset..], output);
+}
+
+// How many of n values from an index on lie in its block.
+fn stretch(idx: usize, n: usize) -> usize
+    ensures { λ r. ⌜ r ≡ min (128 - idx % 128) n ⌝ }
+{
+    let rest = 128 - idx % 128;
+    if rest < n { rest } else { n }
+}
+
+// Fills the output with the values from an index on, one stretch after the other.
+pub(crate) fn read_all(
+    store: BlockedBitpacker,
+    start: usize,
+    bytes: &[u8],
+    entries: &[u64],
+    output: &mut [u64],
+)
+    requires { ⌜ damagedStore store (length (now bytes)) (length (now entries)) ≡ false ⌝ }
+    requires { ⌜ start + length (now output) ≤ countOf store ⌝ }
+    requires { ⌜ touchedDamaged store (now entries) start (start + length (now output)) ≡ false ⌝ }
+    ensures { λ _. ⌜ now (output .exit) ≡ valuesOf store (now (bytes .entry)) (now (entries .entry)) start (length (now (output .entry))) ⌝ }
+{
+    let len = output.len();
+    let mut done = 0;
+    while done < len {
+        let idx = start + done;
+        let next = done + stretch(idx, len - done);
+        read_stretch(store, idx, bytes, entries, &mut output[done..next]);
+        done = next;
+    }
 }
