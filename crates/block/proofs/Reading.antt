@@ -9,18 +9,20 @@ use native.Mathlib.Omega.{arith}
 use lib.Dec.{eqb}
 use lib.ListN.{length, getD, take, drop, set}
 use borrow.Author.Tests.{eq-eqb, eqb-true}
-use Rattle.bit_rule.specs.Place.{valuesFrom}
+use Rattle.bit_rule.specs.Place.{valueAt, liesIn, valuesFrom}
 use Rattle.bit_rule.specs.Width.{legalWidth}
 use Rattle.refusal.specs.declared.Refusal.{Refusal}
 use Rattle.refusal.specs.declared.Refusal.the-variants.{BadWidth, OutOfData}
 use Rattle.bitunpacker.specs.declared.BitUnpacker.{BitUnpacker}
 use Rattle.bitunpacker.specs.declared.Made.{Made}
 use Rattle.bitunpacker.specs.declared.Made.the-variants.{Unpacker, Refused as NotMade}
+use Rattle.bitunpacker.specs.declared.Got.{Got}
+use Rattle.bitunpacker.specs.declared.Got.the-variants.{Value, Refused as NotGot}
 use Rattle.bitunpacker.specs.declared.Filled.{Filled}
 use Rattle.bitunpacker.specs.declared.Filled.the-variants.{Done, Refused as NotFilled}
-use Rattle.bitunpacker.specs.Unpacker.{Range, range, maskOf, unpackerOf, newOf, outOfData, getRangeOf}
+use Rattle.bitunpacker.specs.Unpacker.{Range, range, maskOf, unpackerOf, newOf, outOfData, getOf, getRangeOf}
 use Rattle.block.specs.Block.{aboveBase}
-use Rattle.block.specs.Calls.{readOf}
+use Rattle.block.specs.Calls.{readOf, readOneOf}
 
 -- ---- adding the base
 
@@ -101,3 +103,30 @@ module _ (base w first : ℕ) (bytes out : List ℕ) where
   read-not-made why not-made =
       let says = new-says w (NotMade why) not-made in
       simp (says .0) (ap (λ r. range (NotFilled r) out) (says .1))
+
+-- ---- one value
+
+abbrev pub raisedValue : ℕ → Got → Got
+raisedValue base (Value v) = Value (aboveBase base v)
+raisedValue base (NotGot why) = NotGot why
+
+module _ (base w place : ℕ) (bytes : List ℕ) where
+  -- as for a range: a legal width's own unpacker passes the first two checks
+  pub read-one-made : (u : BitUnpacker) → Unpacker u ≡ newOf w → (got : Got) → got ≡ getOf u place bytes → raisedValue base got ≡ readOneOf base w place bytes
+  unfolding getOf readOneOf
+  read-one-made u made got is =
+      let says = new-says w (Unpacker u) made in
+      ap (raisedValue base) (is ∙ ap (λ v. getOf v place bytes) (says .1))
+      ∙ simp (says .0, eq-eqb (maskOf w) (maskOf w) refl) (by-check (liesIn w place (length bytes)))
+    where
+      by-check : (inside : Bool)
+          → raisedValue base (cond (not inside) (NotGot OutOfData) (Value (valueAt w place bytes)))
+          ≡ cond (not inside) (NotGot OutOfData) (Value (aboveBase base (valueAt w place bytes)))
+      by-check true = refl
+      by-check false = refl
+
+  pub read-one-not-made : (why : Refusal) → NotMade why ≡ newOf w → NotGot why ≡ readOneOf base w place bytes
+  unfolding readOneOf
+  read-one-not-made why not-made =
+      let says = new-says w (NotMade why) not-made in
+      simp (says .0) (ap NotGot (says .1))

@@ -5,11 +5,13 @@ use mathlib.Core.Bool.{not, cond}
 use mathlib.Core.List.{List, [], _∷_, _++_, map}
 use lib.Dec.{leb, ltb, eqb}
 use lib.ListN.{length, getD}
-use Rattle.bit_rule.specs.Place.{valuesFrom}
+use Rattle.bit_rule.specs.Place.{valueAt, liesIn, valuesFrom}
 use Rattle.bit_rule.specs.Search.{atStart}
 use Rattle.bit_rule.specs.Width.{legalWidth}
 use Rattle.refusal.specs.declared.Refusal.the-variants.{BadWidth, OutOfData, NoRoom}
 use Rattle.refusal.specs.First.{check, firstThatHolds}
+use Rattle.bitunpacker.specs.declared.Got.{Got}
+use Rattle.bitunpacker.specs.declared.Got.the-variants.{Value, Refused as NotGot}
 use Rattle.bitunpacker.specs.declared.Filled.the-variants.{Done, Refused as NotFilled}
 use Rattle.bitunpacker.specs.Unpacker.{Range, range, unpackerOf, outOfData}
 use Rattle.block.specs.declared.Sealing.{Sealing}
@@ -39,6 +41,15 @@ readOf base w first bytes out =
     ∷ check (outOfData (unpackerOf w) (first + length out) bytes) (range (NotFilled OutOfData) out)
     ∷ [])
     (range Done (map (aboveBase base) (valuesFrom w first (length out) bytes)))
+
+-- The value at one place of a block that starts with the bytes.
+unfoldable pub readOneOf : ℕ → ℕ → ℕ → List ℕ → Got
+readOneOf base w place bytes =
+    firstThatHolds
+    (check (not (legalWidth w)) (NotGot BadWidth)
+    ∷ check (not (liesIn w place (length bytes))) (NotGot OutOfData)
+    ∷ [])
+    (Value (aboveBase base (valueAt w place bytes)))
 
 -- Eight zeros at the start of what has room for them; less is left alone.
 unfoldable pub clearedOf : List ℕ → List ℕ

@@ -4,6 +4,7 @@ use bitpacker::BitPacker;
 use bitpacker::Written;
 use bitunpacker::BitUnpacker;
 use bitunpacker::Filled;
+use bitunpacker::Got;
 use bitunpacker::Made;
 use num_bits::MinMaxU64;
 use num_bits::compute_num_bits;
@@ -19,7 +20,7 @@ ghost use Rattle.bit_rule.specs.Stream.{Fit, ofWidth};
 ghost use Rattle.bitpacker.proofs.Run.{packed};
 ghost use Rattle.bitunpacker.specs.Unpacker.{range};
 ghost use Rattle.block.specs.Block.{baseOf, blockWidth, differences, bytesOfBlock, eightZeros, aboveBase};
-ghost use Rattle.block.specs.Calls.{outcome, clearedOf, Extent, sealOf, readOf};
+ghost use Rattle.block.specs.Calls.{outcome, clearedOf, Extent, sealOf, readOf, readOneOf};
 
 // Base, width and size of a block that was sealed, or why none was.
 pub enum Sealing {
@@ -126,6 +127,19 @@ pub fn read(base: u64, width: u8, first: u32, bytes: &[u8], output: &mut [u64]) 
                 raise(base, output);
                 Filled::Done
             }
+        },
+    }
+}
+
+// Reads the value at one place of a block that starts with the bytes.
+pub fn read_one(base: u64, width: u8, place: u32, bytes: &[u8]) -> Got
+    ensures { λ r. ⌜ r ≡ readOneOf base width place (now (bytes .entry)) ⌝ }
+{
+    match BitUnpacker::new(width) {
+        Made::Refused(why) => Got::Refused(why),
+        Made::Unpacker(unpacker) => match unpacker.get(place, bytes) {
+            Got::Refused(why) => Got::Refused(why),
+            Got::Value(difference) => Got::Value(wrapping_add_u64(base, difference)),
         },
     }
 }

@@ -25,7 +25,7 @@ use Rattle.blocked_bitpacker.specs.declared.BlockedBitpacker.{BlockedBit
 use Rattle.blocked_bitpacker.specs.declared.Done.the-variants.{Accepted, Refused}
 use Rattle.blocked_bitpacker.specs.Store.{blockLimit, noneWaiting, storeOf, freshStore, damagedStore}
 use Rattle.blocked_bitpacker.specs.Calls.{made, newOf, changed, answered, refusedCall, waitingValues, sealed, sealOrRefuse, waits, addOf, flushOf}
-use Rattle.blocked_bitpacker.proofs.Judging.{Sound}
+use Rattle.blocked_bitpacker.proofs.Judged.{Judged}
 
 -- ---- making a store
 
@@ -111,13 +111,13 @@ two-words at a b words room =
     ∙ sets-eq (a ∷ b ∷ []) words at room
     ∙ append-assoc (take at words) (a ∷ b ∷ []) (drop (at + 2) words)
 
-module _ (s : BlockedBitpacker) (vs : List ℕ) (last : ℕ) (bytes entries : List ℕ) (ok : Sound s (length bytes) (length entries)) where
+module _ (s : BlockedBitpacker) (vs : List ℕ) (last : ℕ) (bytes entries : List ℕ) (ok : Judged s (length bytes) (length entries)) where
   pub past-the-limit : blockLimit ≤ s .blocks → refusedCall EntriesFull s bytes entries ≡ sealOrRefuse s vs last bytes entries
   unfolding sealOrRefuse
   past-the-limit full = simp (lt-ltb blockLimit (s .blocks + 1) (omega arith))
 
   pub used-within : s .used ≤ length bytes
-  used-within = omega (arith, ok .in-bytes)
+  used-within = omega (arith, ok .room)
 
   module _ (below : s .blocks < blockLimit) where
     within-limit : ltb blockLimit (s .blocks + 1) ≡ false

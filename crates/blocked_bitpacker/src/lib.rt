@@ -1,16 +1,22 @@
 // A column that grows: values wait until 128 are there and are then sealed as a block. The store is a
 // value; its two areas, bytes and entry words, are lent at each call. `BlockedBitpacker` of the Rust's
 // src/blocked_bitpacker.rs.
+mod reading;
 
+use bitunpacker::Filled;
 use bitunpacker::Got;
 use block::Sealing;
+use reading::get_in_block;
+use reading::read_all;
+use reading::touches_damage;
 use refusal::Refusal;
 ghost use mathlib.Core.Path.{_≡_};
 ghost use mathlib.Core.Bool.{false};
 ghost use Prim.Native.Nat.{_≤_};
 ghost use lib.ListN.{length};
+ghost use Rattle.bitunpacker.specs.Unpacker.{range};
 ghost use Rattle.blocked_bitpacker.specs.Store.{SoundIn, freshStore, damagedStore, countOf};
-ghost use Rattle.blocked_bitpacker.specs.Calls.{made, newOf, changed, sealOrRefuse, addOf, flushOf, countedOf, getOf};
+ghost use Rattle.blocked_bitpacker.specs.Calls.{made, newOf, changed, sealOrRefuse, addOf, flushOf, countedOf, getOf, getRangeOf};
 
 // The waiting values beside how many bytes and blocks are used, how many values wait, and, once a
 // flush has closed the store, how many values its last block has.
@@ -225,5 +231,53 @@ impl BlockedBitpacker {
         }
         let values = self.buffer;
         self.seal(&values[..waiting], waiting, bytes, entries)
+    }
+
+    // The value at an index.
+    pub fn get(self, idx: usize, bytes: &[u8], entries: &[u64]) -> Got
+        ensures { λ r. ⌜ r ≡ getOf self idx (now (bytes .entry)) (now (entries .entry)) ⌝ }
+    {
+        if self.is_damaged(bytes.len(), entries.len()) {
+            return Got::Refused(Refusal::Damaged);
+        }
+        if self.accepted() <= idx {
+            return Got::Refused(Refusal::NoSuchIndex);
+        }
+        let block = idx / BlockedBitpacker::BLOCK_SIZE;
+        let place = idx % BlockedBitpacker::BLOCK_SIZE;
+        if block < self.blocks {
+            return get_in_block(self, block, place, bytes, entries);
+        }
+        Got::Value(self.buffer[place])
+    }
+
+    // Fills the output with the values from an index on.
+    pub fn get_range(
+        self,
+        start: usize,
+        bytes: &[u8],
+        entries: &[u64],
+        output: &mut [u64],
+    ) -> Filled
+        ensures { λ r. ⌜ range r (now (output .exit)) ≡ getRangeOf self start (now (bytes .entry)) (now (entries .entry)) (now (output .entry)) ⌝ }
+    {
+        if self.is_damaged(bytes.len(), entries.len()) {
+            return Filled::Refused(Refusal::Damaged);
+        }
+        if output.len() == 0 {
+            return Filled::Done;
+        }
+        let count = self.accepted();
+        if count < start {
+            return Filled::Refused(Refusal::NoSuchIndex);
+        }
+        if count - start < output.len() {
+            return Filled::Refused(Refusal::NoSuchIndex);
+        }
+        if touches_damage(self, start, start + output.len(), entries) {
+            return Filled::Refused(Refusal::Damaged);
+        }
+        read_all(self, start, bytes, entries, output);
+        Filled::Done
     }
 }

@@ -5,7 +5,7 @@ use lib.ListN.{length}
 use borrow.Author.Needs.{needs}
 use Rattle.blocked_bitpacker.specs.Store.{damagedStore}
 use Rattle.blocked_bitpacker.specs.Calls.{countedOf}
-use Rattle.blocked_bitpacker.proofs.Judging.{sound}
+use Rattle.blocked_bitpacker.proofs.Judged.{judged}
 use Rattle.blocked_bitpacker.proofs.BlockedBitpacker.count.Statement.{statement}
 use Rattle.blocked_bitpacker.proofs.BlockedBitpacker.count.Tie as tie
 
@@ -21,7 +21,7 @@ unfolding countedOf
 returns c = simp (sym (c .before .is-damaged .ensures) ∙ c .if1 .taken)
 
 accepted-requires : tie.Need-accepted-requires
-accepted-requires c κs = sound _ _ _ (not-damaged c) .counts
+accepted-requires c κs = judged _ _ _ (not-damaged c) .sound
 
 returns-2 : tie.Need-returns-2
 unfolding countedOf

@@ -8,7 +8,7 @@ use borrow.Author.Needs.{needs}
 use borrow.Author.Tests.{eq-eqb}
 use Rattle.blocked_bitpacker.specs.Store.{damagedStore, SoundIn}
 use Rattle.blocked_bitpacker.specs.Calls.{flushOf}
-use Rattle.blocked_bitpacker.proofs.Judging.{sound}
+use Rattle.blocked_bitpacker.proofs.Judged.{judged}
 use Rattle.blocked_bitpacker.proofs.Changing.{flush-seals}
 use Rattle.blocked_bitpacker.proofs.BlockedBitpacker.flush.Statement.{statement}
 use Rattle.blocked_bitpacker.proofs.BlockedBitpacker.flush.Tie as tie
@@ -18,7 +18,7 @@ not-damaged : (c : tie.Else1)
 not-damaged c = sym (c .before .is-damaged .ensures) ∙ c .if1 .left
 
 counts : (c : tie.Else1) → SoundIn (c .before .before .before .before .args .self)
-counts c = sound _ _ _ (not-damaged c) .counts
+counts c = judged _ _ _ (not-damaged c) .sound
 
 -- the buffer's type says how long it is
 holds-128 : (c : tie.Else1) → length (c .before .before .before .before .args .self .buffer) ≡ 128

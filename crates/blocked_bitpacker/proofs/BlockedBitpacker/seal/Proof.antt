@@ -6,16 +6,16 @@ use native.Mathlib.Omega.{arith}
 use lib.ListN.{length, length-set}
 use borrow.Author.Needs.{needs}
 use Rattle.bit_rule.proofs.Parts.{restFrom, length-restFrom}
-use Rattle.blocked_bitpacker.proofs.Judging.{Sound, sound}
+use Rattle.blocked_bitpacker.proofs.Judged.{Judged, judged}
 use Rattle.blocked_bitpacker.proofs.Changing.{SealedIn, block-narrow, sealed-in, not-sealed-in, past-the-limit, past-the-words, seal-without-room, seal-with-room}
 use Rattle.blocked_bitpacker.proofs.BlockedBitpacker.seal.Statement.{statement}
 use Rattle.blocked_bitpacker.proofs.BlockedBitpacker.seal.Tie as tie
 
-sound-at : (c : tie.Start) → Sound (c .args .self) (length (c .args .bytes .now)) (length (c .args .entries .now))
-sound-at c = sound _ _ _ (c .pre)
+sound-at : (c : tie.Start) → Judged (c .args .self) (length (c .args .bytes .now)) (length (c .args .entries .now))
+sound-at c = judged _ _ _ (c .pre)
 
 within : (c : tie.Start) → c .args .self .used ≤ length (c .args .bytes .now)
-within c = omega (arith, sound-at c .in-bytes)
+within c = omega (arith, sound-at c .room)
 
 -- ---- where the block was sealed
 
@@ -40,7 +40,7 @@ narrow c = omega (arith, what-was-sealed c .width-is, block-narrow (start-of (ro
 
 small-used : (c : tie.After-known-told2) → start-of (roomy-of (sealed-of c)) .args .self .used ≤ 1024 * 16777216
 small-used c =
-    let counts = sound-at (start-of (roomy-of (sealed-of c))) .counts in
+    let counts = sound-at (start-of (roomy-of (sealed-of c))) .sound in
     omega (arith, counts .used-bound, counts .few-blocks)
 
 small-size : (c : tie.After-known-told2) → c .before .base .given .0 .1 .1 .0 ≤ length (start-of (roomy-of (sealed-of c)) .args .bytes .now)
