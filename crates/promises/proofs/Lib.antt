@@ -1,0 +1,3 @@
+-- The proofs of the promises.
+pub mod Column
+pub mod Examples
