@@ -2,3 +2,4 @@
 pub mod Judged
 pub mod ReadingLaws
 pub mod Values
+pub mod Searching
