@@ -3,3 +3,4 @@ pub mod Judged
 pub mod Changing
 pub mod ReadingLaws
 pub mod Values
+pub mod Searching

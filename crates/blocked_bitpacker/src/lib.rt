@@ -4,8 +4,10 @@
 mod reading;
 
 use bitunpacker::Filled;
+use bitunpacker::Found;
 use bitunpacker::Got;
 use block::Sealing;
+use reading::find;
 use reading::get_in_block;
 use reading::read_all;
 use reading::touches_damage;
@@ -14,9 +16,9 @@ ghost use mathlib.Core.Path.{_≡_};
 ghost use mathlib.Core.Bool.{false};
 ghost use Prim.Native.Nat.{_≤_};
 ghost use lib.ListN.{length};
-ghost use Rattle.bitunpacker.specs.Unpacker.{range};
+ghost use Rattle.bitunpacker.specs.Unpacker.{range, search};
 ghost use Rattle.blocked_bitpacker.specs.Store.{SoundIn, freshStore, damagedStore, countOf};
-ghost use Rattle.blocked_bitpacker.specs.Calls.{made, newOf, changed, sealOrRefuse, addOf, flushOf, countedOf, getOf, getRangeOf};
+ghost use Rattle.blocked_bitpacker.specs.Calls.{made, newOf, changed, sealOrRefuse, addOf, flushOf, countedOf, getOf, getRangeOf, searchOf};
 
 // The waiting values beside how many bytes and blocks are used, how many values wait, and, once a
 // flush has closed the store, how many values its last block has.
@@ -279,5 +281,37 @@ impl BlockedBitpacker {
         }
         read_all(self, start, bytes, entries, output);
         Filled::Done
+    }
+
+    // The ids from start to before end whose value lies in lo..=hi, ascending, at the start of the
+    // positions.
+    pub fn get_ids_for_value_range(
+        self,
+        lo: u64,
+        hi: u64,
+        start: u32,
+        end: u32,
+        bytes: &[u8],
+        entries: &[u64],
+        positions: &mut [u32],
+    ) -> Found
+        ensures { λ r. ⌜ search r (now (positions .exit)) ≡ searchOf self lo hi start end (now (bytes .entry)) (now (entries .entry)) (now (positions .entry)) ⌝ }
+    {
+        if self.is_damaged(bytes.len(), entries.len()) {
+            return Found::Refused(Refusal::Damaged);
+        }
+        if end <= start {
+            return Found::Ids(0);
+        }
+        if self.accepted() < end as usize {
+            return Found::Refused(Refusal::NoSuchIndex);
+        }
+        if positions.len() < (end - start) as usize {
+            return Found::Refused(Refusal::NoRoom);
+        }
+        if touches_damage(self, start as usize, end as usize, entries) {
+            return Found::Refused(Refusal::Damaged);
+        }
+        Found::Ids(find(self, lo, hi, start, end, bytes, entries, positions))
     }
 }

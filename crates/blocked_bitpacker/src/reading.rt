@@ -1,4 +1,4 @@
-// Reads a store that was judged: entries, and which of them are damaged.
+// Reads a store that was judged: its entries, one value, stretches of values, and the search.
 use crate::BlockedBitpacker;
 use bitunpacker::BitUnpacker;
 use bitunpacker::Got;
@@ -8,8 +8,11 @@ ghost use mathlib.Core.Path.{_≡_};
 ghost use mathlib.Core.Bool.{false};
 ghost use Prim.Native.Nat.{ℕ, _+_, _-_, _*_, _/_, _%_, _^_, _≤_, _<_, min};
 ghost use lib.ListN.{length, getD};
+ghost use Rattle.bit_rule.specs.Search.{liesBetween, matchingIds};
+ghost use Rattle.bitunpacker.specs.Parts.{Kept};
 ghost use Rattle.block.specs.Block.{entryOffset, entryWidth, entryBase, damagedEntry};
 ghost use Rattle.blocked_bitpacker.specs.Store.{SoundIn, damagedStore, countOf, lengthOfBlock, valuesOf, touchedDamaged};
+ghost use Rattle.blocked_bitpacker.specs.Calls.{idsOf};
 ghost use Rattle.blocked_bitpacker.specs.Parts.{blockGot, Stretch};
 
 // What the two words of an entry say.
@@ -179,4 +182,85 @@ pub(crate) fn read_all(
         read_stretch(store, idx, bytes, entries, &mut output[done..next]);
         done = next;
     }
+}
+
+fn lies_between(lo: u64, hi: u64, value: u64) -> bool
+    ensures { λ r. ⌜ r ≡ liesBetween lo hi value ⌝ }
+{
+    lo <= value && value <= hi
+}
+
+// Writes the ids of matching values to the start of the positions, and says how many they are.
+fn keep(lo: u64, hi: u64, id: u32, values: &[u64], positions: &mut [u32]) -> usize
+    requires { ⌜ (id + length (now values) ≤ 2 ^ 32) × (length (now values) ≤ length (now positions)) ⌝ }
+    ensures { λ r. ⌜ Kept 0 (matchingIds lo hi id (now (values .entry))) (now (positions .entry)) r (now (positions .exit)) ⌝ }
+{
+    let mut found = 0;
+    let mut i = 0;
+    while i < values.len() {
+        if lies_between(lo, hi, values[i]) {
+            positions[found] = id + i as u32;
+            found += 1;
+        }
+        i += 1;
+    }
+    found
+}
+
+// Writes the ids of the matching values of one stretch to the start of the positions.
+fn find_in_stretch(
+    store: BlockedBitpacker,
+    lo: u64,
+    hi: u64,
+    id: u32,
+    n: usize,
+    bytes: &[u8],
+    entries: &[u64],
+    positions: &mut [u32],
+) -> usize
+    requires { ⌜ damagedStore store (length (now bytes)) (length (now entries)) ≡ false ⌝ }
+    requires { ⌜ Stretch store id n (now entries) ⌝ }
+    requires { ⌜ (id + n ≤ 2 ^ 32) × (n ≤ length (now positions)) ⌝ }
+    ensures { λ r. ⌜ Kept 0 (idsOf store lo hi id (id + n) (now (bytes .entry)) (now (entries .entry))) (now (positions .entry)) r (now (positions .exit)) ⌝ }
+{
+    let mut values = [0u64; 128];
+    read_stretch(store, id as usize, bytes, entries, &mut values[..n]);
+    keep(lo, hi, id, &values[..n], positions)
+}
+
+// Writes the ids from start to before end whose value lies in lo..=hi, ascending, to the start of the
+// positions, and says how many they are.
+pub(crate) fn find(
+    store: BlockedBitpacker,
+    lo: u64,
+    hi: u64,
+    start: u32,
+    end: u32,
+    bytes: &[u8],
+    entries: &[u64],
+    positions: &mut [u32],
+) -> usize
+    requires { ⌜ damagedStore store (length (now bytes)) (length (now entries)) ≡ false ⌝ }
+    requires { ⌜ (start ≤ end) × (end ≤ countOf store) × (end - start ≤ length (now positions)) ⌝ }
+    requires { ⌜ touchedDamaged store (now entries) start end ≡ false ⌝ }
+    ensures { λ r. ⌜ Kept 0 (idsOf store lo hi start end (now (bytes .entry)) (now (entries .entry))) (now (positions .entry)) r (now (positions .exit)) ⌝ }
+{
+    let mut found = 0;
+    let mut id = start;
+    while id < end {
+        let n = stretch(id as usize, (end - id) as usize);
+        found = found
+            + find_in_stretch(
+                store,
+                lo,
+                hi,
+                id,
+                n,
+                bytes,
+                entries,
+                &mut positions[found..],
+            );
+        id += n as u32;
+    }
+    found
 }
