@@ -39,8 +39,11 @@ abbrev pub answered : Done → BlockedBitpacker → Stored
 answered done s = record { done = done; store = s }
 
 -- "A refusal returns its number and nothing else; buffers .. and store stay as they were."
+abbrev pub refusedWith : Refusal → BlockedBitpacker → Stored
+refusedWith why s = answered (Refused why) s
+
 abbrev pub refusedCall : Refusal → BlockedBitpacker → List ℕ → List ℕ → Changed
-refusedCall why s bytes entries = changed (answered (Refused why) s) bytes entries
+refusedCall why s bytes entries = changed (refusedWith why s) bytes entries
 
 -- What making a store answers, and what the byte area then holds.
 pub record Made : Type 0 where

@@ -8,9 +8,6 @@ use lib.ListN.{length, getD, replicate}
 use Rattle.blocked_bitpacker.specs.declared.BlockedBitpacker.{BlockedBitpacker}
 use Rattle.block.specs.Block.{wordsPerEntry, damagedEntry, blockValue}
 
-abbrev pub blockSizeLimit : ℕ
-blockSizeLimit = 128
-
 -- "Limit: 16,777,216 blocks."
 abbrev pub blockLimit : ℕ
 blockLimit = 16777216

@@ -18,7 +18,7 @@ ghost use Prim.Native.Nat.{_≤_};
 ghost use lib.ListN.{length};
 ghost use Rattle.bitunpacker.specs.Unpacker.{range, search};
 ghost use Rattle.blocked_bitpacker.specs.Store.{SoundIn, freshStore, damagedStore, countOf};
-ghost use Rattle.blocked_bitpacker.specs.Calls.{made, newOf, changed, sealOrRefuse, addOf, flushOf, countedOf, getOf, getRangeOf, searchOf};
+ghost use Rattle.blocked_bitpacker.specs.Calls.{made, newOf, changed, refusedWith, sealOrRefuse, addOf, flushOf, countedOf, getOf, getRangeOf, searchOf};
 
 // The waiting values beside how many bytes and blocks are used, how many values wait, and, once a
 // flush has closed the store, how many values its last block has.
@@ -136,6 +136,16 @@ impl BlockedBitpacker {
         Counted::Count(self.accepted())
     }
 
+    // A call that was refused, with the store as it came.
+    fn refused(self, why: Refusal) -> Stored
+        ensures { λ r. ⌜ r ≡ refusedWith why self ⌝ }
+    {
+        Stored {
+            done: Done::Refused(why),
+            store: self,
+        }
+    }
+
     // Seals some values as a block behind the others, with the last length that the store then has.
     fn seal(
         self,
@@ -150,23 +160,14 @@ impl BlockedBitpacker {
         let used = self.used;
         let blocks = self.blocks;
         if BlockedBitpacker::MAX_BLOCKS <= blocks {
-            return Stored {
-                done: Done::Refused(Refusal::EntriesFull),
-                store: self,
-            };
+            return self.refused(Refusal::EntriesFull);
         }
         let at = 2 * blocks;
         if entries.len() < at + 2 {
-            return Stored {
-                done: Done::Refused(Refusal::EntriesFull),
-                store: self,
-            };
+            return self.refused(Refusal::EntriesFull);
         }
         match block::seal(values, &mut bytes[used..]) {
-            Sealing::Refused(why) => Stored {
-                done: Done::Refused(why),
-                store: self,
-            },
+            Sealing::Refused(why) => self.refused(why),
             Sealing::Sealed(base, width, size) => {
                 entries[at] = used as u64 + width as u64 * 0x100_0000_0000_0000;
                 entries[at + 1] = base;
@@ -189,16 +190,10 @@ impl BlockedBitpacker {
         ensures { λ r. ⌜ changed r (now (bytes .exit)) (now (entries .exit)) ≡ addOf self val (now (bytes .entry)) (now (entries .entry)) ⌝ }
     {
         if self.is_damaged(bytes.len(), entries.len()) {
-            return Stored {
-                done: Done::Refused(Refusal::Damaged),
-                store: self,
-            };
+            return self.refused(Refusal::Damaged);
         }
         if 0 < self.last_length {
-            return Stored {
-                done: Done::Refused(Refusal::Closed),
-                store: self,
-            };
+            return self.refused(Refusal::Closed);
         }
         let waiting = self.waiting;
         let mut next = self;
@@ -219,10 +214,7 @@ impl BlockedBitpacker {
         ensures { λ r. ⌜ changed r (now (bytes .exit)) (now (entries .exit)) ≡ flushOf self (now (bytes .entry)) (now (entries .entry)) ⌝ }
     {
         if self.is_damaged(bytes.len(), entries.len()) {
-            return Stored {
-                done: Done::Refused(Refusal::Damaged),
-                store: self,
-            };
+            return self.refused(Refusal::Damaged);
         }
         let waiting = self.waiting;
         if waiting == 0 {

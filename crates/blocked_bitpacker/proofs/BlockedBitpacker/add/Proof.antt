@@ -27,13 +27,19 @@ holds-128 c = sym (length-map (c .before .before .before .before .args .self .bu
 is-damaged-requires : tie.Need-is-damaged-requires
 is-damaged-requires c κs = search needs
 
+refused-requires : tie.Need-refused-requires
+refused-requires c κs = search needs
+
 returns : tie.Need-returns
 unfolding addOf
-returns c = simp (sym (c .before .is-damaged .ensures) ∙ c .if1 .taken)
+returns c = simp (c .refused .ensures, sym (c .before .before .is-damaged .ensures) ∙ c .before .if1 .taken)
+
+refused-requires-2 : tie.Need-refused-requires-2
+refused-requires-2 c κs = search needs
 
 returns-2 : tie.Need-returns-2
 unfolding addOf
-returns-2 c = simp (not-damaged (c .before .before), lt-ltb 0 _ (c .if2 .taken))
+returns-2 c = simp (c .refused2 .ensures, not-damaged (c .before .before .before), lt-ltb 0 _ (c .before .if2 .taken))
 
 mul-next : tie.Need-mul-next
 mul-next c = omega (arith, counts (c .before .before) .few-waiting)
@@ -77,7 +83,9 @@ add-spec =
     tie.close
     (tie.spec
     is-damaged-requires
+    refused-requires
     returns
+    refused-requires-2
     returns-2
     mul-next
     element-write-next

@@ -27,9 +27,12 @@ holds-128 c = sym (length-map (c .before .before .before .before .args .self .bu
 is-damaged-requires : tie.Need-is-damaged-requires
 is-damaged-requires c κs = search needs
 
+refused-requires : tie.Need-refused-requires
+refused-requires c κs = search needs
+
 returns : tie.Need-returns
 unfolding flushOf
-returns c = simp (sym (c .before .is-damaged .ensures) ∙ c .if1 .taken)
+returns c = simp (c .refused .ensures, sym (c .before .before .is-damaged .ensures) ∙ c .before .if1 .taken)
 
 returns-2 : tie.Need-returns-2
 unfolding flushOf
@@ -69,6 +72,7 @@ flush-spec =
     tie.close
     (tie.spec
     is-damaged-requires
+    refused-requires
     returns
     returns-2
     array-share-prefix-values

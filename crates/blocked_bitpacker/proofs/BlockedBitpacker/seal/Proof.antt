@@ -49,10 +49,14 @@ small-size c =
     let start = start-of (roomy-of (sealed-of c)) in
     omega (arith, done .size-is, done .room, length-restFrom (start .args .self .used) (start .args .bytes .now))
 
+refused-requires : tie.Need-refused-requires
+refused-requires c κs = search needs
+
 returns : tie.Need-returns
 returns c =
-    let start = c .before .before .before .before in
-    past-the-limit _ _ _ _ _ (sound-at start) (c .if1 .taken)
+    let taken = c .before in
+    let start = taken .before .before .before .before in
+    simp (c .refused .ensures) (past-the-limit _ _ _ _ _ (sound-at start) (taken .if1 .taken))
 
 mul-at : tie.Need-mul-at
 mul-at c = search needs
@@ -60,10 +64,14 @@ mul-at c = search needs
 add-if2 : tie.Need-add-if2
 add-if2 c = search needs
 
+refused-requires-2 : tie.Need-refused-requires-2
+refused-requires-2 c κs = search needs
+
 returns-2 : tie.Need-returns-2
 returns-2 c =
-    let start = c .before .before .before .before .before in
-    past-the-words _ _ _ _ _ (sound-at start) (c .before .if1 .left) (c .if2 .taken)
+    let taken = c .before in
+    let start = taken .before .before .before .before .before in
+    simp (c .refused2 .ensures) (past-the-words _ _ _ _ _ (sound-at start) (taken .before .if1 .left) (taken .if2 .taken))
 
 sub-seal : tie.Need-sub-seal
 sub-seal c = within (c .before .before .before .before .before)
@@ -79,6 +87,9 @@ seal-requires c κs = search needs
 
 enum-known-why : tie.Need-enum-known-why
 enum-known-why c = search needs
+
+refused-requires-3 : tie.Need-refused-requires-3
+refused-requires-3 c κs = search needs
 
 enum-known-base : tie.Need-enum-known-base
 enum-known-base c = search needs
@@ -104,22 +115,23 @@ mul-entries-3 c = search needs
 slice-write-entries-2 : tie.Need-slice-write-entries-2
 slice-write-entries-2 c = simp length-set (omega (arith, roomy-of (sealed-of c) .if2 .left))
 
-add-t30 : tie.Need-add-t30
-add-t30 c = omega (arith, small-used c, small-size c, start-of (roomy-of (sealed-of c)) .good)
+add-t27 : tie.Need-add-t27
+add-t27 c = omega (arith, small-used c, small-size c, start-of (roomy-of (sealed-of c)) .good)
 
-add-t32 : tie.Need-add-t32
-add-t32 c = search needs
+add-t29 : tie.Need-add-t29
+add-t29 c = search needs
 
 same-length : tie.Need-same-length
 same-length c = search needs
 
 returns-3 : tie.Need-returns-3
 returns-3 c =
-    let called = c .before .before .before .before .before in
+    let called = c .before .before .before .before .before .before in
     let roomy = called .before .before in
     let start = start-of roomy in
-    seal-without-room _ _ _ _ _ (sound-at start) (roomy .before .if1 .left) (roomy .if2 .left) _ _
-    (not-sealed-in _ _ _ _ _ (called .seal .ensures) (c .before .why .given .1))
+    simp (c .refused3 .ensures)
+    (seal-without-room _ _ _ _ _ (sound-at start) (roomy .before .if1 .left) (roomy .if2 .left) _ _
+    (not-sealed-in _ _ _ _ _ (called .seal .ensures) (c .before .before .why .given .1)))
 
 same-length-2 : tie.Need-same-length-2
 same-length-2 c = search needs
@@ -138,15 +150,18 @@ pub seal-spec : {M : Type 1} → statement M
 seal-spec =
     tie.close
     (tie.spec
+    refused-requires
     returns
     mul-at
     add-if2
+    refused-requires-2
     returns-2
     sub-seal
     part-seal-start
     part-seal-end
     seal-requires
     enum-known-why
+    refused-requires-3
     enum-known-base
     mul-entries
     add-entries
@@ -155,8 +170,8 @@ seal-spec =
     add-entries-2
     mul-entries-3
     slice-write-entries-2
-    add-t30
-    add-t32
+    add-t27
+    add-t29
     same-length
     returns-3
     same-length-2
