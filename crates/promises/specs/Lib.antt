@@ -1,4 +1,5 @@
 -- Promises that no single function makes: a column that was packed is read back, and document 01's marked examples.
 pub mod Column
 pub mod Reply
+pub mod Runs
 pub mod Examples

@@ -1,15 +1,21 @@
 -- An answer as document 01 writes it: its number where it is a refusal, "its number and nothing else", and its values where it is none.
 -- One definition for each enum that the promises speak of gives the number and the values of each of its cases.
 use Prim.Native.Nat.{ℕ}
-use mathlib.Core.List.{List}
+use mathlib.Core.List.{List, [], _∷_}
 use lib.ListN.{take}
 use Rattle.refusal.specs.Number.{numberOf}
 use Rattle.bitpacker.specs.declared.Written.{Written}
 use Rattle.bitpacker.specs.declared.Written.the-variants.{Emitted, Refused as NotWritten}
 use Rattle.bitpacker.specs.Packer.{Outcome}
+use Rattle.bitunpacker.specs.declared.Got.{Got}
+use Rattle.bitunpacker.specs.declared.Got.the-variants.{Value, Refused as NotGot}
 use Rattle.bitunpacker.specs.declared.Found.{Found}
 use Rattle.bitunpacker.specs.declared.Found.the-variants.{Ids, Refused as NotFound}
 use Rattle.bitunpacker.specs.Unpacker.{Search}
+use Rattle.blocked_bitpacker.specs.declared.Done.{Done}
+use Rattle.blocked_bitpacker.specs.declared.Done.the-variants.{Accepted, Refused as NotDone}
+use Rattle.blocked_bitpacker.specs.declared.Counted.{Counted}
+use Rattle.blocked_bitpacker.specs.declared.Counted.the-variants.{Count, Refused as NotCounted}
 
 pub data Reply : Type 0 where
   values : List ℕ → Reply
@@ -30,3 +36,18 @@ foundReply (NotFound why) positions = refusal (numberOf why)
 
 abbrev pub found : Search → Reply
 found s = foundReply (s .answer) (s .positions)
+
+-- The value that a single read gave.
+abbrev pub gotReply : Got → Reply
+gotReply (Value v) = values (v ∷ [])
+gotReply (NotGot why) = refusal (numberOf why)
+
+-- A call that changes a store gives no value.
+abbrev pub doneReply : Done → Reply
+doneReply Accepted = values []
+doneReply (NotDone why) = refusal (numberOf why)
+
+-- How many values a store has accepted.
+abbrev pub countedReply : Counted → Reply
+countedReply (Count n) = values (n ∷ [])
+countedReply (NotCounted why) = refusal (numberOf why)
