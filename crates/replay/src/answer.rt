@@ -1,26 +1,19 @@
 // What the port makes of a case, held to the recorded answer.
+ghost use Prim.Native.Nat.{_≤_};
+use crate::say::say;
 use libc::STDOUT_FILENO;
 
 // How many numbers a line may hold, and an answer too.
 pub const ROOM: usize = 8192;
 
-// What a kind's function makes of a line's numbers.
-pub enum Run {
-    // So many of the numbers are the question, and so many of the lent answer are the port's.
-    Answered(usize, usize),
+pub enum Verdict {
+    Agreed,
+    Differed,
     Malformed,
 }
 
-// Whether the numbers after the question are the port's answer, no more and no fewer.
-pub fn agrees(numbers: &[u64], question: usize, answer: &[u64; ROOM], count: usize) -> bool {
-    if question > numbers.len() {
-        return false;
-    }
-    let recorded = &numbers[question..];
-    if recorded.len() != count {
-        return false;
-    }
-    if count > ROOM {
+fn same(recorded: &[u64], answer: &[u64]) -> bool {
+    if recorded.len() != answer.len() {
         return false;
     }
     let mut i = 0;
@@ -34,13 +27,29 @@ pub fn agrees(numbers: &[u64], question: usize, answer: &[u64; ROOM], count: usi
 }
 
 // Begins the line on a difference, which the tally ends with the case.
-pub fn show(answer: &[u64; ROOM], count: usize) {
-    io::write_all(STDOUT_FILENO, b"the port answers");
-    for i in 0..ROOM {
-        if i >= count {
-            break;
-        }
-        io::write_all(STDOUT_FILENO, b" ");
+fn show(answer: &[u64]) {
+    say(b"the port answers");
+    let mut i = 0;
+    while i < answer.len() {
+        say(b" ");
         io::print_hex(STDOUT_FILENO, answer[i], 1);
+        i += 1;
     }
+}
+
+// Whether the recorded answer is the port's, no longer and no shorter.
+pub fn compare(recorded: &[u64], answer: &[u64]) -> Verdict {
+    if same(recorded, answer) {
+        return Verdict::Agreed;
+    }
+    show(answer);
+    Verdict::Differed
+}
+
+// The same of an answer that is the first numbers of an array.
+pub fn compare_first(recorded: &[u64], answer: &[u64; ROOM], count: usize) -> Verdict
+    requires { do ⌜ count ≤ (← ⟦ROOM⟧) ⌝ }
+{
+    let whole = &answer[..];
+    compare(recorded, &whole[0..count])
 }

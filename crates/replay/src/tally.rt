@@ -1,133 +1,140 @@
-// How many cases of each kind agreed and differed, and what is written of it.
-ghost use Prim.Native.Nat.{_<_};
+// How many cases of each kind agreed and differed, and what is said of it. The counts stand in one lent
+// array: those that agreed by kind, those that differed by kind, then the four places named below.
+ghost use Prim.Native.Nat.{_<_, _≤_};
 use crate::kind;
 use crate::kind::KINDS;
-use crate::kind::Kind;
-use libc::STDOUT_FILENO;
+use crate::say::say;
+use crate::say::say_number;
 
-pub struct Tally {
-    agreed: [u64; KINDS],
-    differed: [u64; KINDS],
-    malformed: u64,
-    // Lines met so far, and whether the last of them was the line that ends the input.
-    lines: u64,
-    ended: bool,
-}
+const DIFFERED: usize = KINDS;
+
+const MALFORMED: usize = 2 * KINDS;
+
+// Lines met so far in this file.
+const LINES: usize = MALFORMED + 1;
+
+// 1 where the last line met was the one that ends the file.
+const ENDED: usize = MALFORMED + 2;
+
+pub const COUNTS: usize = MALFORMED + 3;
 
 // A sum that stays at the largest number instead of wrapping.
 fn plus(a: u64, b: u64) -> u64 {
     if a > u64::MAX - b { u64::MAX } else { a + b }
 }
 
-fn sum(counts: [u64; KINDS]) -> u64 {
+fn add_one(counts: &mut [u64; COUNTS], place: usize)
+    requires { do ⌜ place < (← ⟦COUNTS⟧) ⌝ }
+{
+    counts[place] = plus(counts[place], 1);
+}
+
+pub fn start_file(counts: &mut [u64; COUNTS]) {
+    counts[LINES] = 0;
+    counts[ENDED] = 0;
+}
+
+pub fn next_line(counts: &mut [u64; COUNTS]) {
+    add_one(counts, LINES);
+    counts[ENDED] = 0;
+}
+
+pub fn agree(counts: &mut [u64; COUNTS], kind: usize)
+    requires { do ⌜ kind < (← ⟦KINDS⟧) ⌝ }
+{
+    add_one(counts, kind);
+}
+
+pub fn differ(counts: &mut [u64; COUNTS], kind: usize, line: &[u8])
+    requires { do ⌜ kind < (← ⟦KINDS⟧) ⌝ }
+{
+    add_one(counts, DIFFERED + kind);
+    show(counts[LINES], line);
+}
+
+pub fn malformed(counts: &mut [u64; COUNTS], line: &[u8]) {
+    add_one(counts, MALFORMED);
+    say(b"malformed");
+    show(counts[LINES], line);
+}
+
+// Ends what is said of a difference with the line's number and the line.
+fn show(number: u64, line: &[u8]) {
+    say(b" at line ");
+    say_number(number);
+    say(b": ");
+    say(line);
+    say(b"\n");
+}
+
+// The line `end COUNT`, which counts the file's lines and itself.
+pub fn end(counts: &mut [u64; COUNTS], numbers: &[u64], line: &[u8]) {
+    counts[ENDED] = 1;
+    if numbers.len() == 1 {
+        if numbers[0] == counts[LINES] {
+            return;
+        }
+    }
+    malformed(counts, line);
+}
+
+// The file is over, with so many bytes after its last line end.
+pub fn finish_file(counts: &mut [u64; COUNTS], left: usize) {
+    if left > 0 {
+        next_line(counts);
+        malformed(counts, b"cut short, or longer than the buffer");
+    } else if counts[ENDED] == 0 {
+        malformed(
+            counts,
+            b"cut short: this is not the line that ends the input",
+        );
+    }
+}
+
+// A kind of which no case was met is passed over.
+fn report_kind(place: usize, agreed: u64, differed: u64)
+    requires { do ⌜ place < (← ⟦KINDS⟧) ⌝ }
+{
+    if plus(agreed, differed) == 0 {
+        return;
+    }
+    kind::say_word(place);
+    say(b": ");
+    say_number(agreed);
+    say(b" agreed, ");
+    say_number(differed);
+    say(b" differed\n");
+}
+
+// The sum of the counts from a place to before another.
+fn sum(counts: &[u64; COUNTS], from: usize, to: usize) -> u64
+    requires { do ⌜ to ≤ (← ⟦COUNTS⟧) ⌝ }
+{
     let mut total = 0;
-    for k in 0..KINDS {
-        total = plus(total, counts[k]);
+    let mut place = from;
+    while place < to {
+        total = plus(total, counts[place]);
+        place += 1;
     }
     total
 }
 
-impl Tally {
-    pub fn new() -> Self {
-        Self {
-            agreed: [0; KINDS],
-            differed: [0; KINDS],
-            malformed: 0,
-            lines: 0,
-            ended: false,
-        }
+fn report_all(compared: u64, differences: u64) {
+    if compared == 0 {
+        say(b"no case was compared\n");
     }
+    if differences > 0 {
+        say_number(differences);
+        say(b" differed\n");
+    } else if compared > 0 {
+        say(b"all agreed\n");
+    }
+}
 
-    pub fn next_line(mut self) -> Self {
-        self.lines = plus(self.lines, 1);
-        self.ended = false;
-        self
+// A malformed line counts as a difference, and no case at all is no agreement.
+pub fn report(counts: &[u64; COUNTS]) {
+    for k in 0..KINDS {
+        report_kind(k, counts[k], counts[DIFFERED + k]);
     }
-
-    pub fn agree(mut self, kind: Kind) -> Self {
-        let k = kind.place();
-        self.agreed[k] = plus(self.agreed[k], 1);
-        self
-    }
-
-    pub fn differ(mut self, kind: Kind, line: &[u8]) -> Self {
-        let k = kind.place();
-        self.differed[k] = plus(self.differed[k], 1);
-        self.show(line);
-        self
-    }
-
-    pub fn malformed(mut self, line: &[u8]) -> Self {
-        self.malformed = plus(self.malformed, 1);
-        io::write_all(STDOUT_FILENO, b"malformed");
-        self.show(line);
-        self
-    }
-
-    // Ends what is written of a difference with the line's number and the line.
-    fn show(self, line: &[u8]) {
-        io::write_all(STDOUT_FILENO, b" at line ");
-        io::print_decimal(STDOUT_FILENO, self.lines);
-        io::write_all(STDOUT_FILENO, b": ");
-        io::write_all(STDOUT_FILENO, line);
-        io::write_all(STDOUT_FILENO, b"\n");
-    }
-
-    // The line `end COUNT`, which counts the lines and itself.
-    pub fn end(mut self, numbers: &[u64], line: &[u8]) -> Self {
-        self.ended = true;
-        if numbers.len() == 1 {
-            if numbers[0] == self.lines {
-                return self;
-            }
-        }
-        self.malformed(line)
-    }
-
-    // The input is over, with so many bytes after its last line end.
-    pub fn finish(self, left: usize) -> Self {
-        if left > 0 {
-            return self.next_line()
-                .malformed(b"cut short, or longer than the buffer");
-        }
-        if self.ended {
-            return self;
-        }
-        self.malformed(b"cut short: this is not the line that ends the input")
-    }
-
-    fn report_kind(self, k: usize)
-        requires { do ⌜ k < (← ⟦KINDS⟧) ⌝ }
-    {
-        kind::print_word(k);
-        io::write_all(STDOUT_FILENO, b": ");
-        io::print_decimal(STDOUT_FILENO, self.agreed[k]);
-        io::write_all(STDOUT_FILENO, b" agreed, ");
-        io::print_decimal(STDOUT_FILENO, self.differed[k]);
-        io::write_all(STDOUT_FILENO, b" differed\n");
-    }
-
-    // A malformed line counts as a difference, and no case at all is no agreement.
-    fn report_all(self) {
-        let agreed = self.agreed;
-        let differed = self.differed;
-        let compared = plus(sum(agreed), sum(differed));
-        let differences = plus(sum(differed), self.malformed);
-        if compared == 0 {
-            io::write_all(STDOUT_FILENO, b"no case was compared\n");
-        }
-        if differences > 0 {
-            io::print_decimal(STDOUT_FILENO, differences);
-            io::write_all(STDOUT_FILENO, b" differed\n");
-        } else if compared > 0 {
-            io::write_all(STDOUT_FILENO, b"all agreed\n");
-        }
-    }
-
-    pub fn report(self) {
-        for k in 0..KINDS {
-            self.report_kind(k);
-        }
-        self.report_all();
-    }
+    report_all(sum(counts, 0, MALFORMED), sum(counts, DIFFERED, LINES));
 }

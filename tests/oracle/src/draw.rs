@@ -33,6 +33,17 @@ impl Draw {
         self.word().checked_shr(64 - bits).unwrap_or(0)
     }
 
+    /// A number of up to so many bits; often 0, 1 or the largest.
+    pub fn of_width(&mut self, bits: u8) -> u64 {
+        let largest = u64::MAX.checked_shr(64 - u32::from(bits)).unwrap_or(0);
+        match self.below(8) {
+            0 => 0,
+            1 => largest,
+            2 => largest.min(1),
+            _ => self.word() & largest,
+        }
+    }
+
     pub fn one_of(&mut self, words: &[u64]) -> u64 {
         words[self.below(words.len() as u64) as usize]
     }

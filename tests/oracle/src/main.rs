@@ -4,9 +4,11 @@
 //!
 //! The same words give the same lines. tests/README.md has their form.
 
+mod column;
 mod draw;
 mod line;
 mod minmax;
+mod pack;
 mod width;
 
 use std::io::{self, BufWriter, Write};
@@ -41,6 +43,10 @@ fn write_kind(kind: &str, count: u64, draw: Draw, out: &mut impl Write) -> io::R
         "width" => width::write(count, draw, out),
         "minmax" => minmax::write_u64(count, draw, out),
         "minmaxf" => minmax::write_f64(count, draw, out),
+        "pack" => pack::write(count, draw, out),
+        "get" => column::write_get(count, draw, out),
+        "range" => column::write_range(count, draw, out),
+        "search" => column::write_search(count, draw, out),
         _ => fail(&format!("there is no kind {kind}")),
     }
 }

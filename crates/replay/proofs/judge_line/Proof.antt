@@ -32,9 +32,7 @@ part-judge-parts-start-2 : tie.Need-part-judge-parts-start-2
 part-judge-parts-start-2 c = search needs
 
 part-judge-parts-end-2 : tie.Need-part-judge-parts-end-2
-part-judge-parts-end-2 c =
-    let m = c .before .before .before in
-    within-count _ _ _ (m .n .given .1) (m .before .before .before .before .numbers-from .ensures)
+part-judge-parts-end-2 c = let m = c .before .before .before in within-count _ _ _ (m .n .given .1) (m .before .before .before .before .numbers-from .ensures)
 
 judge-parts-requires : tie.Need-judge-parts-requires
 judge-parts-requires c κs = search needs

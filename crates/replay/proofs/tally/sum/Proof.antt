@@ -1,14 +1,14 @@
--- `replay::tally::sum` is safe and ends: each turn is at a place of the tally.
+-- `replay::tally::sum` is safe and ends: each turn leaves fewer counts.
 use borrow.Author.Needs.{needs}
-use Prim.Native.Nat.{_≤_, _-_}
+use Prim.Native.Nat.{_-_}
 use Rattle.replay.proofs.tally.sum.Statement.{statement}
 use Rattle.replay.proofs.tally.sum.Tie as tie
 
 abbrev Inv-loop : tie.InvT-loop
-Inv-loop counts total₀ k₀ total k = k ≤ 3
+Inv-loop counts from to total₀ place₀ total place = Unit {0}
 
 abbrev μ-loop : tie.MeasureT-loop
-μ-loop counts total₀ k₀ total k = 3 - k
+μ-loop counts from to total₀ place₀ total place = to - place
 
 loop-holds : tie.Need-loop-holds Inv-loop μ-loop
 loop-holds c = search needs
@@ -16,14 +16,14 @@ loop-holds c = search needs
 mul-plus : tie.Need-mul-plus Inv-loop μ-loop
 mul-plus c = search needs
 
-array-read-plus : tie.Need-array-read-plus Inv-loop μ-loop
-array-read-plus c = search needs
+element-copy-out-plus : tie.Need-element-copy-out-plus Inv-loop μ-loop
+element-copy-out-plus c = search needs
 
 plus-requires : tie.Need-plus-requires Inv-loop μ-loop
 plus-requires c κs = search needs
 
-add-k : tie.Need-add-k Inv-loop μ-loop
-add-k c = search needs
+add-place : tie.Need-add-place Inv-loop μ-loop
+add-place c = search needs
 
 loop-less : tie.Need-loop-less Inv-loop μ-loop
 loop-less c = search needs
@@ -42,9 +42,9 @@ sum-spec =
     μ-loop
     loop-holds
     mul-plus
-    array-read-plus
+    element-copy-out-plus
     plus-requires
-    add-k
+    add-place
     loop-less
     loop-again
     returns)
