@@ -48,7 +48,7 @@ pub fn compare(recorded: &[u64], answer: &[u64]) -> Verdict {
 
 // The same of an answer that is the first numbers of an array.
 pub fn compare_first(recorded: &[u64], answer: &[u64; ROOM], count: usize) -> Verdict
-    requires { do ⌜ count ≤ (← ⟦ROOM⟧) ⌝ }
+    requires { ⌜ count ≤ 8192 ⌝ }
 {
     let whole = &answer[..];
     compare(recorded, &whole[0..count])

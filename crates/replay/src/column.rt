@@ -1,6 +1,6 @@
 // What is asked of a bare column: `KIND WIDTH BYTES WORD0 WORD1 ..`, the column, then the question, then
 // the answer: 0 and what was read, or the number of a refusal alone.
-ghost use Prim.Native.Nat.{_≤_};
+ghost use Prim.Native.Nat.{_<_, _≤_};
 use crate::answer;
 use crate::answer::ROOM;
 use crate::answer::Verdict;
@@ -47,25 +47,36 @@ fn get(unpacker: BitUnpacker, data: &[u8], rest: &[u64]) -> Verdict {
     }
 }
 
+fn range_of(
+    unpacker: BitUnpacker,
+    data: &[u8],
+    start: u32,
+    count: usize,
+    recorded: &[u64],
+) -> Verdict
+    requires { ⌜ count < 8192 ⌝ }
+{
+    let mut answer = [0; ROOM];
+    match unpacker.get_range(start, data, &mut answer[1..count + 1]) {
+        Filled::Done => answer::compare_first(recorded, &answer, count + 1),
+        Filled::Refused(why) => compare_refusal(recorded, why),
+    }
+}
+
 // `START COUNT`, answered by the values.
 fn range(unpacker: BitUnpacker, data: &[u8], rest: &[u64]) -> Verdict {
     if rest.len() < 2 {
         return Verdict::Malformed;
     }
     let start = rest[0];
+    let count = rest[1] as usize;
     if start > LARGEST_INDEX {
         return Verdict::Malformed;
     }
-    let count = rest[1];
-    if count >= ROOM as u64 {
+    if count >= ROOM {
         return Verdict::Malformed;
     }
-    let end = count as usize + 1;
-    let mut answer = [0; ROOM];
-    match unpacker.get_range(start as u32, data, &mut answer[1..end]) {
-        Filled::Done => answer::compare_first(&rest[2..], &answer, end),
-        Filled::Refused(why) => compare_refusal(&rest[2..], why),
-    }
+    range_of(unpacker, data, start as u32, count, &rest[2..])
 }
 
 fn ask(question: Question, width: u64, data: &[u8], rest: &[u64]) -> Verdict {
@@ -87,7 +98,7 @@ fn ask_first(
     count: usize,
     rest: &[u64],
 ) -> Verdict
-    requires { do ⌜ count ≤ (← ⟦BYTES⟧) ⌝ }
+    requires { ⌜ count ≤ 32768 ⌝ }
 {
     let whole = &bytes[..];
     ask(question, width, &whole[0..count], rest)

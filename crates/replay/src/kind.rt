@@ -7,7 +7,6 @@ use crate::column::Question;
 use crate::line;
 use crate::minmax;
 use crate::pack;
-use crate::say::say;
 use crate::width;
 
 pub const KINDS: usize = 7;
@@ -19,9 +18,9 @@ pub const END: usize = KINDS;
 const ENTRIES: usize = KINDS + 1;
 
 // Each entry's word, filled up with spaces.
-const ENTRY: usize = 8;
+pub const ENTRY: usize = 8;
 
-const WORDS: [u8; ENTRY * ENTRIES] =
+pub const WORDS: [u8; ENTRY * ENTRIES] =
     *b"width   minmax  minmaxf pack    get     range   search  end     ";
 
 // The place of a word in the table, or the table's length where it has none.
@@ -35,21 +34,12 @@ pub fn of(word: &[u8]) -> usize {
 }
 
 fn is_word(place: usize, word: &[u8]) -> bool
-    requires { do ⌜ place < (← ⟦ENTRIES⟧) ⌝ }
+    requires { ⌜ place < 8 ⌝ }
 {
     let from = ENTRY * place;
     let entry = &WORDS[from..from + ENTRY];
     let end = line::word_end(entry);
     check::same(&entry[0..end], word)
-}
-
-pub fn say_word(place: usize)
-    requires { do ⌜ place < (← ⟦KINDS⟧) ⌝ }
-{
-    let from = ENTRY * place;
-    let entry = &WORDS[from..from + ENTRY];
-    let end = line::word_end(entry);
-    say(&entry[0..end]);
 }
 
 // Has the port answer the case of the kind at a place.

@@ -22,10 +22,12 @@ use kind::KINDS;
 use libc::STDIN_FILENO;
 use line::Numbers;
 use tally::COUNTS;
+use tally::ENDED;
+use tally::LINES;
 
 // A case whose line is read: its numbers are the question, then the recorded answer.
 fn judge_case(kind: usize, numbers: &[u64], line: &[u8], counts: &mut [u64; COUNTS])
-    requires { do ⌜ kind < (← ⟦KINDS⟧) ⌝ }
+    requires { ⌜ kind < 7 ⌝ }
 {
     match kind::run(kind, numbers) {
         Verdict::Agreed => tally::agree(counts, kind),
@@ -48,7 +50,7 @@ fn judge_parts(word: &[u8], numbers: &[u64], line: &[u8], counts: &mut [u64; COU
 
 // A line of the input, without its line end.
 fn judge_line(line: &[u8], numbers: &mut [u64], counts: &mut [u64; COUNTS]) {
-    tally::next_line(counts);
+    tally::add_one(counts, LINES);
     let word = line::word_end(line);
     match line::numbers_from(line, word, numbers) {
         Numbers::Count(n) => judge_parts(&line[0..word], &numbers[0..n], line, counts),
@@ -97,7 +99,8 @@ fn judge_input(
 fn judge_file(fd: i32, counts: &mut [u64; COUNTS]) {
     let mut buffer = [0u8; 262144];
     let mut numbers = [0u64; ROOM];
-    tally::start_file(counts);
+    counts[LINES] = 0;
+    counts[ENDED] = 0;
     let left = judge_input(fd, &mut buffer, &mut numbers, counts);
     tally::finish_file(counts, left);
 }

@@ -53,7 +53,7 @@ fn patterns_of(port: MinMaxF64) -> MinMaxU64 {
 
 // The port's lowest and highest of the floats with these patterns.
 fn minmax_of_patterns(patterns: &[u64]) -> MinMaxU64
-    requires { do ⌜ length (now patterns) ≤ (← ⟦ROOM⟧) ⌝ }
+    requires { ⌜ length (now patterns) ≤ 8192 ⌝ }
 {
     let mut floats = [0.0; ROOM];
     let mut i = 0;

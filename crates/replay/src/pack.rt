@@ -1,34 +1,20 @@
 // `pack COUNT WIDTH0 VALUE0 WIDTH1 VALUE1 .. ANSWER`: steps of a packer, two numbers each, each given the
-// output after what was emitted. The answer is 0, how many bytes each step emitted, and the output in
-// words of eight, to the word with the first byte past the stream; or the number of a refusal alone.
-ghost use Prim.Native.Nat.{_<_, _≤_};
-ghost use lib.ListN.{length};
-use crate::answer;
-use crate::answer::ROOM;
+// output after what was emitted. The answer is how many bytes each step emitted, then the stream's bytes.
 use crate::answer::Verdict;
 use crate::column;
 use crate::line;
 use crate::say::say;
+use crate::say::say_number;
+use crate::words;
+use crate::words::BYTES;
 use bitpacker::BitPacker;
 use bitpacker::Written;
-use refusal::Refusal;
 
 // In the place of a width: a flush.
 const FLUSH: u64 = 0x100;
 
-// How many bytes and words the output has room for, and what each byte holds before the first step.
-const OUTPUT: usize = 8192;
-
-const OUTPUT_WORDS: usize = 1024;
-
+// What every byte of the output holds before the first step.
 const BEFORE: u8 = 0xa5;
-
-// How many bytes the steps emitted, or why one was refused.
-enum Packed {
-    Bytes(usize),
-    Refused(Refusal),
-    BeyondOutput,
-}
 
 fn step(packer: BitPacker, width: u64, value: u64, output: &mut [u8]) -> Written {
     if width == FLUSH {
@@ -37,120 +23,57 @@ fn step(packer: BitPacker, width: u64, value: u64, output: &mut [u8]) -> Written
     packer.write(value, column::narrow(width), output)
 }
 
-// Takes the steps, and puts behind the answer's first number how many bytes each emitted.
-fn take_steps(steps: &[u64], output: &mut [u8], answer: &mut [u64; ROOM]) -> Packed
-    requires { do ⌜ length (now steps) ≤ (← ⟦ROOM⟧) ⌝ }
-{
+// Takes the steps, and answers how many of them emit as many bytes as is recorded before one does not.
+fn take_steps(steps: &[u64], emitted: &[u64], output: &mut [u8]) -> usize {
     let mut packer = BitPacker::new();
     let mut at = 0;
     let mut i = 0;
-    while i + 1 < steps.len() {
-        match step(packer, steps[i], steps[i + 1], &mut output[at..]) {
+    while i < emitted.len() {
+        let from = 2 * i;
+        if from + 1 >= steps.len() {
+            return i;
+        }
+        match step(packer, steps[from], steps[from + 1], &mut output[at..]) {
             Written::Emitted(next, count) => {
+                if emitted[i] != count as u64 {
+                    return i;
+                }
                 if count > output.len() - at {
-                    return Packed::BeyondOutput;
+                    return i;
                 }
                 packer = next;
-                answer[i / 2 + 1] = count as u64;
                 at += count;
             }
-            Written::Refused(why) => {
-                return Packed::Refused(why);
+            Written::Refused(_) => {
+                return i;
             }
-        }
-        i += 2;
-    }
-    Packed::Bytes(at)
-}
-
-// Whether the output's bytes from an index on are as they were.
-fn stayed(output: &[u8; OUTPUT], from: usize) -> bool {
-    let mut i = from;
-    while i < OUTPUT {
-        if output[i] != BEFORE {
-            return false;
         }
         i += 1;
     }
-    true
+    i
 }
 
-fn wide(byte: u8) -> u64 {
-    byte as u64
+fn same_bytes(a: &[u8; BYTES], b: &[u8; BYTES]) -> bool {
+    check::same(&a[..], &b[..])
 }
 
-// The output's word at a place.
-fn word_at(output: &[u8; OUTPUT], place: usize) -> u64
-    requires { do ⌜ place < (← ⟦OUTPUT_WORDS⟧) ⌝ }
-{
-    let at = 8 * place;
-    wide(output[at])
-        | wide(output[at + 1]) << 8
-        | wide(output[at + 2]) << 16
-        | wide(output[at + 3]) << 24
-        | wide(output[at + 4]) << 32
-        | wide(output[at + 5]) << 40
-        | wide(output[at + 6]) << 48
-        | wide(output[at + 7]) << 56
-}
-
-// Puts the output's first words to the answer from an index on, as many as there is room for, and
-// answers the index past them.
-fn put_words(output: &[u8; OUTPUT], words: usize, answer: &mut [u64; ROOM], from: usize) -> usize
-    requires { do ⌜ from ≤ (← ⟦ROOM⟧) ⌝ }
-    ensures { λ r. do ⌜ r ≤ (← ⟦ROOM⟧ .entry) ⌝ }
-{
-    let mut at = from;
-    for place in 0..OUTPUT_WORDS {
-        if place >= words {
-            return at;
-        }
-        if at >= ROOM {
-            return at;
-        }
-        answer[at] = word_at(output, place);
-        at += 1;
-    }
-    at
-}
-
-// The output holds a stream of so many bytes, and the answer's first numbers are there.
-fn compare_stream(
-    recorded: &[u64],
-    output: &[u8; OUTPUT],
-    count: usize,
-    answer: &mut [u64; ROOM],
-    from: usize,
-) -> Verdict
-    requires { do ⌜ from ≤ (← ⟦ROOM⟧) ⌝ }
-{
-    if !stayed(output, count) {
-        say(b"the port writes past what it emits");
+// The steps, and what is recorded of each and of the stream. Every byte of the output is compared, those
+// past the stream with what they were before.
+fn compare(steps: &[u64], emitted: &[u64], stream: &[u64]) -> Verdict {
+    let mut output = [BEFORE; BYTES];
+    let mut recorded = [BEFORE; BYTES];
+    let agreed = take_steps(steps, emitted, &mut output);
+    if agreed < emitted.len() {
+        say(b"the port answers otherwise at step ");
+        say_number(agreed as u64);
         return Verdict::Differed;
     }
-    let end = put_words(output, count / 8 + 1, answer, from);
-    answer::compare_first(recorded, answer, end)
-}
-
-fn run_steps(steps: &[u64], recorded: &[u64]) -> Verdict
-    requires { do ⌜ length (now steps) ≤ (← ⟦ROOM⟧) ⌝ }
-{
-    let mut output = [BEFORE; OUTPUT];
-    let mut answer = [0; ROOM];
-    match take_steps(steps, &mut output, &mut answer) {
-        Packed::Bytes(count) => compare_stream(
-            recorded,
-            &output,
-            count,
-            &mut answer,
-            steps.len() / 2 + 1,
-        ),
-        Packed::Refused(why) => column::compare_refusal(recorded, why),
-        Packed::BeyondOutput => {
-            say(b"the port emits more than the output has room for");
-            Verdict::Differed
-        }
+    words::unpack(stream, &mut recorded);
+    if !same_bytes(&output, &recorded) {
+        say(b"the port answers with other bytes");
+        return Verdict::Differed;
     }
+    Verdict::Agreed
 }
 
 pub fn run(numbers: &[u64]) -> Verdict {
@@ -158,8 +81,14 @@ pub fn run(numbers: &[u64]) -> Verdict {
     if end == 0 {
         return Verdict::Malformed;
     }
-    if end > ROOM {
+    let recorded = &numbers[end..];
+    let count = (end - 1) / 2;
+    if count > recorded.len() {
         return Verdict::Malformed;
     }
-    run_steps(&numbers[1..end], &numbers[end..])
+    let stream = &recorded[count..];
+    if words::bytes_end(stream) != stream.len() {
+        return Verdict::Malformed;
+    }
+    compare(&numbers[1..end], &recorded[0..count], stream)
 }

@@ -1,58 +1,81 @@
 // `search`: `LO HI START END ROOM`, answered by the ids from START to before END whose value lies in
 // LO..=HI. ROOM is how many positions are lent.
-use crate::answer;
+ghost use Prim.Native.Nat.{_≤_};
+ghost use lib.ListN.{length};
 use crate::answer::ROOM;
 use crate::answer::Verdict;
 use crate::column;
 use crate::column::LARGEST_INDEX;
 use crate::say::say;
+use crate::say::say_number;
 use bitunpacker::BitUnpacker;
 use bitunpacker::Found;
 
 // What every position holds before the search.
 const BEFORE: u32 = 0xa5a5_a5a5;
 
-// Whether the positions from a place on are as they were.
-fn stayed(positions: &[u32; ROOM], from: usize) -> bool {
-    let mut i = from;
-    while i < ROOM {
-        if positions[i] != BEFORE {
-            return false;
-        }
-        i += 1;
-    }
-    true
-}
-
 fn wide(id: u32) -> u64 {
     id as u64
 }
 
-// The positions behind the answer's first number, which is 0.
-fn put(positions: &[u32; ROOM], answer: &mut [u64; ROOM]) {
-    for i in 1..ROOM {
-        answer[i] = wide(positions[i - 1]);
+// The first place whose position is not as recorded, or as before where nothing is recorded of it.
+fn first_difference(recorded: &[u64], positions: &[u32; ROOM]) -> usize {
+    for i in 0..ROOM {
+        let position = wide(positions[i]);
+        if i < recorded.len() {
+            if position != recorded[i] {
+                return i;
+            }
+        } else if position != BEFORE as u64 {
+            return i;
+        }
     }
+    ROOM
 }
 
 fn compare_ids(recorded: &[u64], positions: &[u32; ROOM], found: usize) -> Verdict {
-    if found >= ROOM {
-        say(b"the port counts more ids than there is room for");
-        return Verdict::Differed;
+    if recorded.len() == 0 {
+        return Verdict::Malformed;
     }
-    if !stayed(positions, found) {
-        say(b"the port writes past the ids that it counts");
-        return Verdict::Differed;
+    let ids = &recorded[1..];
+    let place = first_difference(ids, positions);
+    if recorded[0] == 0 {
+        if found == ids.len() {
+            if place == ROOM {
+                return Verdict::Agreed;
+            }
+        }
     }
-    let mut answer = [0; ROOM];
-    put(positions, &mut answer);
-    answer::compare_first(recorded, &answer, found + 1)
+    say(b"the port answers with this many ids: ");
+    say_number(found as u64);
+    say(b", and the first position that differs is ");
+    say_number(place as u64);
+    Verdict::Differed
 }
 
-fn compare(recorded: &[u64], positions: &[u32; ROOM], port: Found) -> Verdict {
+// Searches with so many positions lent.
+fn search_with_room(
+    unpacker: BitUnpacker,
+    data: &[u8],
+    rest: &[u64],
+    start: u32,
+    end: u32,
+    room: usize,
+) -> Verdict
+    requires { ⌜ (5 ≤ length (now rest)) × (room ≤ 8192) ⌝ }
+{
+    let mut positions = [BEFORE; ROOM];
+    let port = unpacker.get_ids_for_value_range(
+        rest[0],
+        rest[1],
+        start,
+        end,
+        data,
+        &mut positions[0..room],
+    );
     match port {
-        Found::Ids(found) => compare_ids(recorded, positions, found),
-        Found::Refused(why) => column::compare_refusal(recorded, why),
+        Found::Ids(found) => compare_ids(&rest[5..], &positions, found),
+        Found::Refused(why) => column::compare_refusal(&rest[5..], why),
     }
 }
 
@@ -61,25 +84,16 @@ pub fn search(unpacker: BitUnpacker, data: &[u8], rest: &[u64]) -> Verdict {
         return Verdict::Malformed;
     }
     let start = rest[2];
+    let end = rest[3];
+    let room = rest[4] as usize;
     if start > LARGEST_INDEX {
         return Verdict::Malformed;
     }
-    let end = rest[3];
     if end > LARGEST_INDEX {
         return Verdict::Malformed;
     }
-    let room = rest[4] as usize;
-    if room >= ROOM {
+    if room > ROOM {
         return Verdict::Malformed;
     }
-    let mut positions = [BEFORE; ROOM];
-    let port = unpacker.get_ids_for_value_range(
-        rest[0],
-        rest[1],
-        start as u32,
-        end as u32,
-        data,
-        &mut positions[0..room],
-    );
-    compare(&rest[5..], &positions, port)
+    search_with_room(unpacker, data, rest, start as u32, end as u32, room)
 }

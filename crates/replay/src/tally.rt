@@ -1,59 +1,57 @@
 // How many cases of each kind agreed and differed, and what is said of it. The counts stand in one lent
-// array: those that agreed by kind, those that differed by kind, then the four places named below.
-ghost use Prim.Native.Nat.{_<_, _≤_};
-use crate::kind;
+// array: those that agreed by kind, those that differed by kind, then the places named below.
+ghost use Prim.Native.Nat.{_<_};
+use crate::kind::ENTRY;
 use crate::kind::KINDS;
+use crate::kind::WORDS;
 use crate::say::say;
 use crate::say::say_number;
 
 const DIFFERED: usize = KINDS;
 
-const MALFORMED: usize = 2 * KINDS;
+// Cases of every kind.
+const COMPARED: usize = 2 * KINDS;
+
+// Cases that differed, and malformed lines.
+const DIFFERENCES: usize = COMPARED + 1;
 
 // Lines met so far in this file.
-const LINES: usize = MALFORMED + 1;
+pub const LINES: usize = COMPARED + 2;
 
-// 1 where the last line met was the one that ends the file.
-const ENDED: usize = MALFORMED + 2;
+// The line that ended the file, or 0.
+pub const ENDED: usize = COMPARED + 3;
 
-pub const COUNTS: usize = MALFORMED + 3;
+pub const COUNTS: usize = COMPARED + 4;
 
-// A sum that stays at the largest number instead of wrapping.
-fn plus(a: u64, b: u64) -> u64 {
-    if a > u64::MAX - b { u64::MAX } else { a + b }
-}
-
-fn add_one(counts: &mut [u64; COUNTS], place: usize)
-    requires { do ⌜ place < (← ⟦COUNTS⟧) ⌝ }
+// One more, unless that would wrap. (There are 18 places.)
+pub fn add_one(counts: &mut [u64; COUNTS], place: usize)
+    requires { ⌜ place < 18 ⌝ }
 {
-    counts[place] = plus(counts[place], 1);
-}
-
-pub fn start_file(counts: &mut [u64; COUNTS]) {
-    counts[LINES] = 0;
-    counts[ENDED] = 0;
-}
-
-pub fn next_line(counts: &mut [u64; COUNTS]) {
-    add_one(counts, LINES);
-    counts[ENDED] = 0;
+    let count = counts[place];
+    if count < u64::MAX {
+        counts[place] = count + 1;
+    }
 }
 
 pub fn agree(counts: &mut [u64; COUNTS], kind: usize)
-    requires { do ⌜ kind < (← ⟦KINDS⟧) ⌝ }
+    requires { ⌜ kind < 7 ⌝ }
 {
     add_one(counts, kind);
+    add_one(counts, COMPARED);
 }
 
 pub fn differ(counts: &mut [u64; COUNTS], kind: usize, line: &[u8])
-    requires { do ⌜ kind < (← ⟦KINDS⟧) ⌝ }
+    requires { ⌜ kind < 7 ⌝ }
 {
     add_one(counts, DIFFERED + kind);
+    add_one(counts, COMPARED);
+    add_one(counts, DIFFERENCES);
     show(counts[LINES], line);
 }
 
+// A malformed line counts as a difference.
 pub fn malformed(counts: &mut [u64; COUNTS], line: &[u8]) {
-    add_one(counts, MALFORMED);
+    add_one(counts, DIFFERENCES);
     say(b"malformed");
     show(counts[LINES], line);
 }
@@ -69,9 +67,10 @@ fn show(number: u64, line: &[u8]) {
 
 // The line `end COUNT`, which counts the file's lines and itself.
 pub fn end(counts: &mut [u64; COUNTS], numbers: &[u64], line: &[u8]) {
-    counts[ENDED] = 1;
+    let lines = counts[LINES];
+    counts[ENDED] = lines;
     if numbers.len() == 1 {
-        if numbers[0] == counts[LINES] {
+        if numbers[0] == lines {
             return;
         }
     }
@@ -81,44 +80,35 @@ pub fn end(counts: &mut [u64; COUNTS], numbers: &[u64], line: &[u8]) {
 // The file is over, with so many bytes after its last line end.
 pub fn finish_file(counts: &mut [u64; COUNTS], left: usize) {
     if left > 0 {
-        next_line(counts);
+        add_one(counts, LINES);
         malformed(counts, b"cut short, or longer than the buffer");
-    } else if counts[ENDED] == 0 {
-        malformed(
-            counts,
-            b"cut short: this is not the line that ends the input",
-        );
+        return;
+    }
+    if counts[ENDED] == 0 {
+        malformed(counts, b"cut short: there is no line that ends the file");
+    } else if counts[ENDED] < counts[LINES] {
+        malformed(counts, b"this comes after the line that ends the file");
     }
 }
 
 // A kind of which no case was met is passed over.
-fn report_kind(place: usize, agreed: u64, differed: u64)
-    requires { do ⌜ place < (← ⟦KINDS⟧) ⌝ }
+fn report_kind(kind: usize, agreed: u64, differed: u64)
+    requires { ⌜ kind < 7 ⌝ }
 {
-    if plus(agreed, differed) == 0 {
-        return;
+    if agreed == 0 {
+        if differed == 0 {
+            return;
+        }
     }
-    kind::say_word(place);
-    say(b": ");
+    let from = ENTRY * kind;
+    say(&WORDS[from..from + ENTRY]);
     say_number(agreed);
     say(b" agreed, ");
     say_number(differed);
     say(b" differed\n");
 }
 
-// The sum of the counts from a place to before another.
-fn sum(counts: &[u64; COUNTS], from: usize, to: usize) -> u64
-    requires { do ⌜ to ≤ (← ⟦COUNTS⟧) ⌝ }
-{
-    let mut total = 0;
-    let mut place = from;
-    while place < to {
-        total = plus(total, counts[place]);
-        place += 1;
-    }
-    total
-}
-
+// No case at all is no agreement.
 fn report_all(compared: u64, differences: u64) {
     if compared == 0 {
         say(b"no case was compared\n");
@@ -131,10 +121,9 @@ fn report_all(compared: u64, differences: u64) {
     }
 }
 
-// A malformed line counts as a difference, and no case at all is no agreement.
 pub fn report(counts: &[u64; COUNTS]) {
-    for k in 0..KINDS {
-        report_kind(k, counts[k], counts[DIFFERED + k]);
+    for kind in 0..KINDS {
+        report_kind(kind, counts[kind], counts[DIFFERED + kind]);
     }
-    report_all(sum(counts, 0, MALFORMED), sum(counts, DIFFERED, LINES));
+    report_all(counts[COMPARED], counts[DIFFERENCES]);
 }

@@ -6,7 +6,7 @@ use std::io::{self, Write};
 
 use tantivy_bitpacker::{BitPacker, BitUnpacker};
 
-use crate::draw::Draw;
+use crate::draw::{Draw, spread};
 use crate::line;
 
 /// Every width that an unpacker takes.
@@ -20,9 +20,10 @@ const DATA_LENGTHS: [u64; 8] = [0, 1, 7, 8, 9, 15, 16, 17];
 /// The counts around which a range read changes its way through the values.
 const RANGE_COUNTS: [u64; 14] = [0, 1, 3, 4, 5, 7, 8, 9, 31, 32, 33, 63, 64, 65];
 
-/// The largest data and the most ids of a case, so that a line has no more than 8,192 numbers.
-const MOST_BYTES: u64 = 32_000;
+/// The most ids of a search, so that a line has no more than 8,192 numbers, and the bytes that `replay`
+/// takes.
 const MOST_IDS: u64 = 4_000;
+const MOST_BYTES: usize = 32_768;
 
 pub struct Column {
     pub width: u8,
@@ -50,9 +51,9 @@ impl Column {
         question: &[u64],
         answer: &[u64],
     ) -> io::Result<()> {
-        let numbers: Vec<u64> = [u64::from(self.width), self.data.len() as u64]
+        let numbers: Vec<u64> = [u64::from(self.width)]
             .into_iter()
-            .chain(line::words(&self.data))
+            .chain(line::bytes(&self.data))
             .chain(question.iter().copied())
             .collect();
         line::write(out, kind, &numbers, answer)
@@ -86,7 +87,9 @@ fn packed(draw: &mut Draw, width: u8, values: u64) -> Vec<u8> {
     let mut data = Vec::new();
     for _ in 0..values {
         let value = draw.of_width(spread);
-        packer.write(value, width, &mut data).expect("a vector takes every write");
+        packer
+            .write(value, width, &mut data)
+            .expect("a vector takes every write");
     }
     packer.close(&mut data).expect("a vector takes every write");
     data
@@ -102,7 +105,7 @@ fn any_index(draw: &mut Draw, values: u64) -> u64 {
 }
 
 pub fn write_get(count: u64, mut draw: Draw, out: &mut impl Write) -> io::Result<()> {
-    let mut edges = get_edges(&mut draw).into_iter();
+    let mut edges = spread(get_edges(&mut draw), count);
     for _ in 0..count {
         let (column, index) = edges.next().unwrap_or_else(|| {
             let width = any_width(&mut draw);
@@ -123,7 +126,10 @@ fn get_edges(draw: &mut Draw) -> Vec<(Column, u64)> {
     let mut cases = Vec::new();
     for width in legal_widths() {
         for length in DATA_LENGTHS {
-            let column = Column { width, data: any_bytes(draw, length) };
+            let column = Column {
+                width,
+                data: any_bytes(draw, length),
+            };
             let values = column.values();
             let indexes = match (width, values) {
                 (0, _) => vec![0, 1, (1 << 32) - 41],
@@ -132,7 +138,10 @@ fn get_edges(draw: &mut Draw) -> Vec<(Column, u64)> {
                 _ => vec![0, values / 2, values - 2, values - 1],
             };
             for index in indexes {
-                let column = Column { width, data: column.data.clone() };
+                let column = Column {
+                    width,
+                    data: column.data.clone(),
+                };
                 cases.push((column, index));
             }
         }
@@ -146,11 +155,13 @@ struct Span {
 }
 
 pub fn write_range(count: u64, mut draw: Draw, out: &mut impl Write) -> io::Result<()> {
-    let mut edges = range_edges(&mut draw).into_iter();
+    let mut edges = spread(range_edges(&mut draw), count);
     for _ in 0..count {
         let (column, span) = edges.next().unwrap_or_else(|| random_range(&mut draw));
         let mut values = vec![0; span.count as usize];
-        column.unpacker().get_range(span.start as u32, &column.data, &mut values);
+        column
+            .unpacker()
+            .get_range(span.start as u32, &column.data, &mut values);
         let answer: Vec<u64> = [0].into_iter().chain(values).collect();
         column.write(out, "range", &[span.start, span.count], &answer)?;
     }
@@ -165,7 +176,10 @@ fn range_edges(draw: &mut Draw) -> Vec<(Column, Span)> {
         for count in RANGE_COUNTS {
             for (start, after) in [(0, 0), (0, 8), (3, 0), (5, 8)] {
                 let bytes = ((start + count) * u64::from(width)).div_ceil(8) + after;
-                let column = Column { width, data: any_bytes(draw, bytes) };
+                let column = Column {
+                    width,
+                    data: any_bytes(draw, bytes),
+                };
                 cases.push((column, Span { start, count }));
             }
         }
@@ -191,26 +205,34 @@ fn random_range(draw: &mut Draw) -> (Column, Span) {
 struct Search {
     lowest: u64,
     highest: u64,
-    ids: Span,
+    start: u64,
+    end: u64,
 }
 
 pub fn write_search(count: u64, mut draw: Draw, out: &mut impl Write) -> io::Result<()> {
-    let mut edges = search_edges(&mut draw).into_iter();
+    let mut edges = spread(search_edges(&mut draw), count);
     for _ in 0..count {
         let (column, search) = edges.next().unwrap_or_else(|| random_search(&mut draw));
-        let start = search.ids.start;
-        let end = start + search.ids.count;
+        let Search {
+            lowest,
+            highest,
+            start,
+            end,
+        } = search;
         let mut positions = Vec::new();
         column.unpacker().get_ids_for_value_range(
-            search.lowest..=search.highest,
+            lowest..=highest,
             start as u32..end as u32,
             &column.data,
             &mut positions,
         );
-        let answer: Vec<u64> = [0].into_iter().chain(positions.into_iter().map(u64::from)).collect();
+        let answer: Vec<u64> = [0]
+            .into_iter()
+            .chain(positions.into_iter().map(u64::from))
+            .collect();
         // Half of the searches are lent exactly as many positions as there are ids.
-        let room = search.ids.count + draw.below(2) * draw.below(40);
-        let question = [search.lowest, search.highest, start, end, room];
+        let room = end.saturating_sub(start) + draw.below(2) * draw.below(40);
+        let question = [lowest, highest, start, end, room];
         column.write(out, "search", &question, &answer)?;
     }
     Ok(())
@@ -222,13 +244,18 @@ fn search_edges(draw: &mut Draw) -> Vec<(Column, Search)> {
     let mut cases = Vec::new();
     for width in legal_widths() {
         for start in 0..8 {
-            let count = draw.one_of(&[0, 1, 8, 23, 24, 25, 31, 32, 33, 39, 40, 41, 64, 71, 72, 73, 100]);
+            let count = draw.one_of(&[
+                0, 1, 8, 23, 24, 25, 31, 32, 33, 39, 40, 41, 64, 71, 72, 73, 100,
+            ]);
             for sort in 0..INTERVALS {
                 cases.push(search_of(draw, width, Span { start, count }, sort));
             }
         }
         if width % 8 == 0 {
-            let span = Span { start: draw.below(8), count: 1_000 + draw.below(2_000) };
+            let span = Span {
+                start: draw.below(8),
+                count: 1_000 + draw.below(2_000),
+            };
             let sort = draw.below(INTERVALS);
             cases.push(search_of(draw, width, span, sort));
         }
@@ -243,7 +270,10 @@ fn random_search(draw: &mut Draw) -> (Column, Search) {
         n if n % 2 == 0 => draw.below(101),
         _ => draw.below(20),
     };
-    let span = Span { start: draw.below(60), count };
+    let span = Span {
+        start: draw.below(60),
+        count,
+    };
     let sort = draw.below(INTERVALS);
     search_of(draw, width, span, sort)
 }
@@ -254,11 +284,13 @@ const INTERVALS: u64 = 8;
 /// A column that has the ids, and an interval of the given sort.
 fn search_of(draw: &mut Draw, width: u8, ids: Span, sort: u64) -> (Column, Search) {
     let column = column_of(draw, width, ids.start + ids.count);
-    assert!(column.data.len() as u64 <= MOST_BYTES + 600);
+    assert!(column.data.len() <= MOST_BYTES);
     let values = column.values();
     let met = match values {
         0 => 0,
-        _ => column.unpacker().get(draw.below(values) as u32, &column.data),
+        _ => column
+            .unpacker()
+            .get(draw.below(values) as u32, &column.data),
     };
     let other = draw.of_width(width);
     let (lowest, highest) = match sort {
@@ -273,7 +305,21 @@ fn search_of(draw: &mut Draw, width: u8, ids: Span, sort: u64) -> (Column, Searc
         // above every value of 32 bits
         _ => (draw.word() | 1 << 32, u64::MAX - draw.below(2)),
     };
-    (column, Search { lowest, highest, ids })
+    let Span { start, count } = ids;
+    // An empty range may also end before it starts.
+    let end = match count {
+        0 => start - draw.below(start + 1),
+        _ => start + count,
+    };
+    (
+        column,
+        Search {
+            lowest,
+            highest,
+            start,
+            end,
+        },
+    )
 }
 
 /// The largest value of a width.

@@ -48,3 +48,15 @@ impl Draw {
         words[self.below(words.len() as u64) as usize]
     }
 }
+
+/// Some of the cases, from all over the list, so that a small sample has every sort of them: half as many
+/// as are asked for, or all where there are no more than that.
+pub fn spread<T>(cases: Vec<T>, count: u64) -> impl Iterator<Item = T> {
+    let length = cases.len() as u64;
+    let wanted = length.min(count.div_ceil(2));
+    cases
+        .into_iter()
+        .zip(0..)
+        .filter(move |(_, i)| i * wanted / length < (i + 1) * wanted / length)
+        .map(|(case, _)| case)
+}

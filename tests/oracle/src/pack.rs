@@ -1,29 +1,28 @@
 //! `pack COUNT WIDTH0 VALUE0 WIDTH1 VALUE1 .. ANSWER`: values of mixed widths with flushes anywhere among
-//! them, where the width is 100. The answer is 0, how many bytes each step emitted, and the output in
-//! words, to the word with the first byte past the stream; that byte and the others are a5 before.
+//! them, where the width is 100. The answer is how many bytes each step emitted, then the bytes.
 
 use std::io::{self, Write};
 
 use tantivy_bitpacker::BitPacker;
 
-use crate::draw::Draw;
+use crate::draw::{Draw, spread};
 use crate::line;
 
 /// In the place of a width: a flush.
 const FLUSH: u64 = 0x100;
-
-/// What the output holds before the first step.
-const BEFORE: u8 = 0xa5;
 
 struct Step {
     width: u64,
     value: u64,
 }
 
-const A_FLUSH: Step = Step { width: FLUSH, value: 0 };
+const A_FLUSH: Step = Step {
+    width: FLUSH,
+    value: 0,
+};
 
 pub fn write(count: u64, mut draw: Draw, out: &mut impl Write) -> io::Result<()> {
-    let mut edges = edges(&mut draw).into_iter();
+    let mut edges = spread(edges(&mut draw), count);
     for _ in 0..count {
         let steps = edges.next().unwrap_or_else(|| random(&mut draw));
         let numbers: Vec<u64> = [2 * steps.len() as u64]
@@ -38,7 +37,7 @@ pub fn write(count: u64, mut draw: Draw, out: &mut impl Write) -> io::Result<()>
 fn answer(steps: &[Step]) -> Vec<u64> {
     let mut packer = BitPacker::new();
     let mut stream = Vec::new();
-    let mut numbers = vec![0];
+    let mut numbers = Vec::new();
     for step in steps {
         let before = stream.len();
         if step.width == FLUSH {
@@ -49,8 +48,7 @@ fn answer(steps: &[Step]) -> Vec<u64> {
         .expect("a vector takes every write");
         numbers.push((stream.len() - before) as u64);
     }
-    stream.resize(8 * (stream.len() / 8 + 1), BEFORE);
-    numbers.extend(line::words(&stream));
+    numbers.extend(line::bytes(&stream));
     numbers
 }
 
@@ -64,14 +62,25 @@ fn edges(draw: &mut Draw) -> Vec<Vec<Step>> {
     let mut lists = vec![vec![], vec![A_FLUSH], vec![A_FLUSH, A_FLUSH]];
     for width in 0..=64 {
         for value in [largest(width), largest(width).min(1)] {
-            lists.push((0..130).map(|_| Step { width, value }).chain([A_FLUSH]).collect());
+            lists.push(
+                (0..130)
+                    .map(|_| Step { width, value })
+                    .chain([A_FLUSH])
+                    .collect(),
+            );
         }
     }
     for first in 0..=64 {
         for second in 0..=64 {
             lists.push(vec![
-                Step { width: first, value: draw.of_width(first as u8) },
-                Step { width: second, value: largest(second) },
+                Step {
+                    width: first,
+                    value: draw.of_width(first as u8),
+                },
+                Step {
+                    width: second,
+                    value: largest(second),
+                },
                 A_FLUSH,
                 Step { width: 3, value: 5 },
             ]);
@@ -101,7 +110,10 @@ fn random(draw: &mut Draw) -> Vec<Step> {
                 2 => draw.below(9),
                 _ => draw.below(65),
             };
-            Step { width, value: draw.of_width(width as u8) }
+            Step {
+                width,
+                value: draw.of_width(width as u8),
+            }
         })
         .collect()
 }

@@ -4,8 +4,8 @@ use Rattle.replay.specs.Line.{within-count}
 use Rattle.replay.proofs.judge_line.Statement.{statement}
 use Rattle.replay.proofs.judge_line.Tie as tie
 
-next-line-requires : tie.Need-next-line-requires
-next-line-requires c κs = search needs
+add-one-requires : tie.Need-add-one-requires
+add-one-requires c κs = search needs
 
 word-end-requires : tie.Need-word-end-requires
 word-end-requires c κs = search needs
@@ -59,7 +59,7 @@ pub judge-line-spec : {M : Type 1} → statement M
 judge-line-spec =
     tie.close
     (tie.spec
-    next-line-requires
+    add-one-requires
     word-end-requires
     numbers-from-requires
     enum-known-n

@@ -1,16 +1,16 @@
--- `replay::pack::take_steps` is safe and ends. What was emitted lies in the output, which stays as long as it is, and each turn leaves less of the steps.
+-- `replay::pack::take_steps` is safe and ends. What was emitted lies in the output, which stays as long as it is, and each turn leaves fewer steps.
 use borrow.Author.Needs.{needs}
-use Prim.Native.Nat.{_+_, _≤_, _-_}
+use Prim.Native.Nat.{_≤_, _-_}
 use mathlib.Core.Path.{_≡_}
 use lib.ListN.{length}
 use Rattle.replay.proofs.pack.take_steps.Statement.{statement}
 use Rattle.replay.proofs.pack.take_steps.Tie as tie
 
 abbrev Inv-loop : tie.InvT-loop
-Inv-loop steps output₀ answer₀ packer₀ at₀ i₀ output answer packer at i = (i ≤ length steps + 1) × (at ≤ length output) × (length output ≡ length output₀)
+Inv-loop steps emitted output₀ packer₀ at₀ i₀ output packer at i = (i ≤ length emitted) × (at ≤ length output) × (length output ≡ length output₀)
 
 abbrev μ-loop : tie.MeasureT-loop
-μ-loop steps output₀ answer₀ packer₀ at₀ i₀ output answer packer at i = length steps + 1 - i
+μ-loop steps emitted output₀ packer₀ at₀ i₀ output packer at i = length emitted - i
 
 new-requires : tie.Need-new-requires Inv-loop μ-loop
 new-requires c κs = search needs
@@ -18,8 +18,17 @@ new-requires c κs = search needs
 loop-holds : tie.Need-loop-holds Inv-loop μ-loop
 loop-holds c = search needs
 
-add-loop : tie.Need-add-loop Inv-loop μ-loop
-add-loop c = search needs
+mul-from : tie.Need-mul-from Inv-loop μ-loop
+mul-from c = search needs
+
+add-if1 : tie.Need-add-if1 Inv-loop μ-loop
+add-if1 c = search needs
+
+same-length : tie.Need-same-length Inv-loop μ-loop
+same-length c = search needs
+
+returns : tie.Need-returns Inv-loop μ-loop
+returns c = search needs
 
 mul-step : tie.Need-mul-step Inv-loop μ-loop
 mul-step c = search needs
@@ -51,35 +60,38 @@ step-requires c κs = search needs
 enum-known-next : tie.Need-enum-known-next Inv-loop μ-loop
 enum-known-next c = search needs
 
-sub-if1 : tie.Need-sub-if1 Inv-loop μ-loop
-sub-if1 c = search needs
+mul-if2 : tie.Need-mul-if2 Inv-loop μ-loop
+mul-if2 c = search needs
 
-same-length : tie.Need-same-length Inv-loop μ-loop
-same-length c = search needs
-
-returns : tie.Need-returns Inv-loop μ-loop
-returns c = search needs
-
-add-answer : tie.Need-add-answer Inv-loop μ-loop
-add-answer c = search needs
-
-mul-answer : tie.Need-mul-answer Inv-loop μ-loop
-mul-answer c = search needs
-
-element-write-answer : tie.Need-element-write-answer Inv-loop μ-loop
-element-write-answer c = search needs
-
-add-at : tie.Need-add-at Inv-loop μ-loop
-add-at c = search needs
-
-enum-known-why : tie.Need-enum-known-why Inv-loop μ-loop
-enum-known-why c = search needs
+shared-slice-read-if2 : tie.Need-shared-slice-read-if2 Inv-loop μ-loop
+shared-slice-read-if2 c = search needs
 
 same-length-2 : tie.Need-same-length-2 Inv-loop μ-loop
 same-length-2 c = search needs
 
 returns-2 : tie.Need-returns-2 Inv-loop μ-loop
 returns-2 c = search needs
+
+sub-if3 : tie.Need-sub-if3 Inv-loop μ-loop
+sub-if3 c = search needs
+
+same-length-3 : tie.Need-same-length-3 Inv-loop μ-loop
+same-length-3 c = search needs
+
+returns-3 : tie.Need-returns-3 Inv-loop μ-loop
+returns-3 c = search needs
+
+add-at : tie.Need-add-at Inv-loop μ-loop
+add-at c = search needs
+
+enum-told : tie.Need-enum-told Inv-loop μ-loop
+enum-told c = search needs
+
+same-length-4 : tie.Need-same-length-4 Inv-loop μ-loop
+same-length-4 c = search needs
+
+returns-4 : tie.Need-returns-4 Inv-loop μ-loop
+returns-4 c = search needs
 
 add-i : tie.Need-add-i Inv-loop μ-loop
 add-i c = search needs
@@ -90,11 +102,11 @@ loop-less c = search needs
 loop-again : tie.Need-loop-again Inv-loop μ-loop
 loop-again c = search needs
 
-same-length-3 : tie.Need-same-length-3 Inv-loop μ-loop
-same-length-3 c = search needs
+same-length-5 : tie.Need-same-length-5 Inv-loop μ-loop
+same-length-5 c = search needs
 
-returns-3 : tie.Need-returns-3 Inv-loop μ-loop
-returns-3 c = search needs
+returns-5 : tie.Need-returns-5 Inv-loop μ-loop
+returns-5 c = search needs
 
 pub take-steps-spec : {M : Type 1} → statement M
 take-steps-spec =
@@ -104,7 +116,10 @@ take-steps-spec =
     μ-loop
     new-requires
     loop-holds
-    add-loop
+    mul-from
+    add-if1
+    same-length
+    returns
     mul-step
     shared-slice-read-step
     add-step
@@ -115,18 +130,19 @@ take-steps-spec =
     part-step-end
     step-requires
     enum-known-next
-    sub-if1
-    same-length
-    returns
-    add-answer
-    mul-answer
-    element-write-answer
-    add-at
-    enum-known-why
+    mul-if2
+    shared-slice-read-if2
     same-length-2
     returns-2
+    sub-if3
+    same-length-3
+    returns-3
+    add-at
+    enum-told
+    same-length-4
+    returns-4
     add-i
     loop-less
     loop-again
-    same-length-3
-    returns-3)
+    same-length-5
+    returns-5)

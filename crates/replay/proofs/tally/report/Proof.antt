@@ -5,10 +5,10 @@ use Rattle.replay.proofs.tally.report.Statement.{statement}
 use Rattle.replay.proofs.tally.report.Tie as tie
 
 abbrev Inv-loop : tie.InvT-loop
-Inv-loop counts k₀ k = k ≤ 7
+Inv-loop counts kind₀ kind = kind ≤ 7
 
 abbrev μ-loop : tie.MeasureT-loop
-μ-loop counts k₀ k = 7 - k
+μ-loop counts kind₀ kind = 7 - kind
 
 loop-holds : tie.Need-loop-holds Inv-loop μ-loop
 loop-holds c = search needs
@@ -31,8 +31,8 @@ element-copy-out-report-kind-2 c = search needs
 report-kind-requires : tie.Need-report-kind-requires Inv-loop μ-loop
 report-kind-requires c κs = search needs
 
-add-k : tie.Need-add-k Inv-loop μ-loop
-add-k c = search needs
+add-kind : tie.Need-add-kind Inv-loop μ-loop
+add-kind c = search needs
 
 loop-less : tie.Need-loop-less Inv-loop μ-loop
 loop-less c = search needs
@@ -40,11 +40,11 @@ loop-less c = search needs
 loop-again : tie.Need-loop-again Inv-loop μ-loop
 loop-again c = search needs
 
-sum-requires : tie.Need-sum-requires Inv-loop μ-loop
-sum-requires c κs = search needs
+element-copy-out-report-all : tie.Need-element-copy-out-report-all Inv-loop μ-loop
+element-copy-out-report-all c = search needs
 
-sum-requires-2 : tie.Need-sum-requires-2 Inv-loop μ-loop
-sum-requires-2 c κs = search needs
+element-copy-out-report-all-2 : tie.Need-element-copy-out-report-all-2 Inv-loop μ-loop
+element-copy-out-report-all-2 c = search needs
 
 report-all-requires : tie.Need-report-all-requires Inv-loop μ-loop
 report-all-requires c κs = search needs
@@ -65,10 +65,10 @@ report-spec =
     mul-report-kind-2
     element-copy-out-report-kind-2
     report-kind-requires
-    add-k
+    add-kind
     loop-less
     loop-again
-    sum-requires
-    sum-requires-2
+    element-copy-out-report-all
+    element-copy-out-report-all-2
     report-all-requires
     returns)

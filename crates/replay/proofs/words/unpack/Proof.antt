@@ -1,14 +1,19 @@
--- `replay::words::unpack` meets its contract: no more bytes are put than there is room for.
+-- `replay::words::unpack` meets its contract: the bytes that are counted have room, and the words that hold them are there.
 use borrow.Author.Needs.{needs}
-use Prim.Native.Nat.{_≤_, _-_}
+use native.Mathlib.Omega.{arith}
+use Prim.Native.Nat.{_+_, _*_, _≤_, _-_}
+use lib.ListN.{length}
 use Rattle.replay.proofs.words.unpack.Statement.{statement}
 use Rattle.replay.proofs.words.unpack.Tie as tie
 
 abbrev Inv-loop : tie.InvT-loop
-Inv-loop numbers bytes₀ count i₀ bytes i = i ≤ 32768
+Inv-loop numbers bytes₀ count i₀ bytes i = (i ≤ count) × (count ≤ 32768) × (count + 8 ≤ 8 * length numbers)
 
 abbrev μ-loop : tie.MeasureT-loop
-μ-loop numbers bytes₀ count i₀ bytes i = 32768 - i
+μ-loop numbers bytes₀ count i₀ bytes i = count - i
+
+bytes-end-requires : tie.Need-bytes-end-requires Inv-loop μ-loop
+bytes-end-requires c κs = search needs
 
 returns : tie.Need-returns Inv-loop μ-loop
 returns c = search needs
@@ -17,31 +22,21 @@ shared-slice-read-count : tie.Need-shared-slice-read-count Inv-loop μ-loop
 shared-slice-read-count c = search needs
 
 loop-holds : tie.Need-loop-holds Inv-loop μ-loop
-loop-holds c = search needs
+loop-holds c =
+    let whole = c .before .before .bytes-end .ensures in
+    (omega arith, whole .room (omega arith), whole .there (omega arith))
 
-returns-2 : tie.Need-returns-2 Inv-loop μ-loop
-returns-2 c = search needs
+add-byte-of : tie.Need-add-byte-of Inv-loop μ-loop
+add-byte-of c = search needs
 
-add-word : tie.Need-add-word Inv-loop μ-loop
-add-word c = search needs
+mul-byte-of : tie.Need-mul-byte-of Inv-loop μ-loop
+mul-byte-of c = search needs
 
-returns-3 : tie.Need-returns-3 Inv-loop μ-loop
-returns-3 c = search needs
+shared-slice-read-byte-of : tie.Need-shared-slice-read-byte-of Inv-loop μ-loop
+shared-slice-read-byte-of c = search needs
 
-mul-bytes : tie.Need-mul-bytes Inv-loop μ-loop
-mul-bytes c = search needs
-
-shared-slice-read-bytes : tie.Need-shared-slice-read-bytes Inv-loop μ-loop
-shared-slice-read-bytes c = search needs
-
-mul-bytes-2 : tie.Need-mul-bytes-2 Inv-loop μ-loop
-mul-bytes-2 c = search needs
-
-shr-bytes : tie.Need-shr-bytes Inv-loop μ-loop
-shr-bytes c = search needs
-
-cast-bytes : tie.Need-cast-bytes Inv-loop μ-loop
-cast-bytes c = search needs
+byte-of-requires : tie.Need-byte-of-requires Inv-loop μ-loop
+byte-of-requires c κs = search needs
 
 element-write-bytes : tie.Need-element-write-bytes Inv-loop μ-loop
 element-write-bytes c = search needs
@@ -55,8 +50,8 @@ loop-less c = search needs
 loop-again : tie.Need-loop-again Inv-loop μ-loop
 loop-again c = search needs
 
-returns-4 : tie.Need-returns-4 Inv-loop μ-loop
-returns-4 c = search needs
+returns-2 : tie.Need-returns-2 Inv-loop μ-loop
+returns-2 c = search needs
 
 pub unpack-spec : {M : Type 1} → statement M
 unpack-spec =
@@ -64,19 +59,16 @@ unpack-spec =
     (tie.spec
     Inv-loop
     μ-loop
+    bytes-end-requires
     returns
     shared-slice-read-count
     loop-holds
-    returns-2
-    add-word
-    returns-3
-    mul-bytes
-    shared-slice-read-bytes
-    mul-bytes-2
-    shr-bytes
-    cast-bytes
+    add-byte-of
+    mul-byte-of
+    shared-slice-read-byte-of
+    byte-of-requires
     element-write-bytes
     add-i
     loop-less
     loop-again
-    returns-4)
+    returns-2)
