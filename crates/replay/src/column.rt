@@ -32,6 +32,13 @@ pub fn narrow(width: u64) -> u8 {
     if width > 255 { 255 } else { width as u8 }
 }
 
+fn compare_value(recorded: &[u64], port: Got) -> Verdict {
+    match port {
+        Got::Value(value) => answer::compare(recorded, &[0, value]),
+        Got::Refused(why) => compare_refusal(recorded, why),
+    }
+}
+
 // `INDEX`, answered by the value.
 fn get(unpacker: BitUnpacker, data: &[u8], rest: &[u64]) -> Verdict {
     if rest.len() == 0 {
@@ -41,10 +48,7 @@ fn get(unpacker: BitUnpacker, data: &[u8], rest: &[u64]) -> Verdict {
     if index > LARGEST_INDEX {
         return Verdict::Malformed;
     }
-    match unpacker.get(index as u32, data) {
-        Got::Value(value) => answer::compare(&rest[1..], &[0, value]),
-        Got::Refused(why) => compare_refusal(&rest[1..], why),
-    }
+    compare_value(&rest[1..], unpacker.get(index as u32, data))
 }
 
 fn range_of(
@@ -79,7 +83,12 @@ fn range(unpacker: BitUnpacker, data: &[u8], rest: &[u64]) -> Verdict {
     range_of(unpacker, data, start as u32, count, &rest[2..])
 }
 
-fn ask(question: Question, width: u64, data: &[u8], rest: &[u64]) -> Verdict {
+// The column is the first bytes of an array.
+fn ask(question: Question, width: u64, bytes: &[u8; BYTES], count: usize, rest: &[u64]) -> Verdict
+    requires { ⌜ count ≤ 32768 ⌝ }
+{
+    let whole = &bytes[..];
+    let data = &whole[0..count];
     match BitUnpacker::new(narrow(width)) {
         Made::Unpacker(unpacker) => match question {
             Question::Get => get(unpacker, data, rest),
@@ -90,25 +99,11 @@ fn ask(question: Question, width: u64, data: &[u8], rest: &[u64]) -> Verdict {
     }
 }
 
-// The column is the first bytes of an array.
-fn ask_first(
-    question: Question,
-    width: u64,
-    bytes: &[u8; BYTES],
-    count: usize,
-    rest: &[u64],
-) -> Verdict
-    requires { ⌜ count ≤ 32768 ⌝ }
-{
-    let whole = &bytes[..];
-    ask(question, width, &whole[0..count], rest)
-}
-
 // The column's bytes are unpacked, and the question is asked of them.
 fn ask_packed(question: Question, width: u64, packed: &[u64], rest: &[u64]) -> Verdict {
     let mut data = [0; BYTES];
     let count = words::unpack(packed, &mut data);
-    ask_first(question, width, &data, count, rest)
+    ask(question, width, &data, count, rest)
 }
 
 pub fn run(question: Question, numbers: &[u64]) -> Verdict {

@@ -46,8 +46,8 @@ fn is_word(place: usize, word: &[u8]) -> bool
 pub fn run(place: usize, numbers: &[u64]) -> Verdict {
     match place {
         0 => width::run(numbers),
-        1 => minmax::run_u64(numbers),
-        2 => minmax::run_f64(numbers),
+        1 => minmax::run(numbers, false),
+        2 => minmax::run(numbers, true),
         3 => pack::run(numbers),
         4 => column::run(Question::Get, numbers),
         5 => column::run(Question::Range, numbers),

@@ -109,9 +109,10 @@ fn judge_file(fd: i32, counts: &mut [u64; COUNTS]) {
 fn judge_named(place: usize, counts: &mut [u64; COUNTS]) {
     let mut path = io::buffer();
     let n = os::arg(place, &mut path);
-    let fd = os::open_read(&path[..n]);
+    let name = &path[..n];
+    let fd = os::open_read(name);
     if fd < 0 {
-        os::fail(&path[..n]);
+        os::fail(name);
         tally::malformed(counts, b"the file cannot be opened");
         return;
     }

@@ -16,14 +16,6 @@ fn compare(recorded: &[u64], port: MinMaxU64) -> Verdict {
     }
 }
 
-pub fn run_u64(numbers: &[u64]) -> Verdict {
-    let end = line::list_end(numbers);
-    if end == 0 {
-        return Verdict::Malformed;
-    }
-    compare(&numbers[end..], num_bits::minmax_u64(&numbers[1..end]))
-}
-
 const SIGN: u64 = 0x8000_0000_0000_0000;
 
 // The pattern of infinity: those above it, but for the sign, are the NaNs'.
@@ -64,7 +56,7 @@ fn minmax_of_patterns(patterns: &[u64]) -> MinMaxU64
     patterns_of(num_bits::minmax_f64(&floats[0..i]))
 }
 
-pub fn run_f64(numbers: &[u64]) -> Verdict {
+pub fn run(numbers: &[u64], are_floats: bool) -> Verdict {
     let end = line::list_end(numbers);
     if end == 0 {
         return Verdict::Malformed;
@@ -72,5 +64,10 @@ pub fn run_f64(numbers: &[u64]) -> Verdict {
     if end > ROOM {
         return Verdict::Malformed;
     }
-    compare(&numbers[end..], minmax_of_patterns(&numbers[1..end]))
+    let list = &numbers[1..end];
+    let recorded = &numbers[end..];
+    if are_floats {
+        return compare(recorded, minmax_of_patterns(list));
+    }
+    compare(recorded, num_bits::minmax_u64(list))
 }

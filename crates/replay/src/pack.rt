@@ -1,5 +1,8 @@
-// `pack COUNT WIDTH0 VALUE0 WIDTH1 VALUE1 .. ANSWER`: steps of a packer, two numbers each, each given the
-// output after what was emitted. The answer is how many bytes each step emitted, then the stream's bytes.
+// `pack COUNT WIDTH0 VALUE0 EMITTED0 WIDTH1 VALUE1 EMITTED1 .. STREAM`: steps of a packer, three numbers
+// each, each step given the output after what was emitted; the last number is how many bytes it emits.
+// Then the stream's bytes.
+ghost use Prim.Native.Nat.{_≤_};
+ghost use lib.ListN.{length};
 use crate::answer::Verdict;
 use crate::column;
 use crate::line;
@@ -23,32 +26,51 @@ fn step(packer: BitPacker, width: u64, value: u64, output: &mut [u8]) -> Written
     packer.write(value, column::narrow(width), output)
 }
 
-// Takes the steps, and answers how many of them emit as many bytes as is recorded before one does not.
-fn take_steps(steps: &[u64], emitted: &[u64], output: &mut [u8]) -> usize {
+// Where a step leaves the packer and the stream's end, and whether it emitted as is recorded.
+struct Taken {
+    packer: BitPacker,
+    at: usize,
+    agrees: bool,
+}
+
+// The output's part had room from at to before end.
+fn after(port: Written, emitted: u64, at: usize, end: usize) -> Taken
+    requires { ⌜ at ≤ end ⌝ }
+    ensures { λ r. ⌜ r .at ≤ end ⌝ }
+{
+    if let Written::Emitted(packer, count) = port {
+        if count as u64 == emitted {
+            if count <= end - at {
+                return Taken {
+                    packer,
+                    at: at + count,
+                    agrees: true,
+                };
+            }
+        }
+    }
+    Taken {
+        packer: BitPacker::new(),
+        at,
+        agrees: false,
+    }
+}
+
+// Takes the steps, and answers at which number it stopped, because the port answers otherwise there.
+fn take_steps(steps: &[u64], output: &mut [u8]) -> usize {
+    let end = output.len();
     let mut packer = BitPacker::new();
     let mut at = 0;
     let mut i = 0;
-    while i < emitted.len() {
-        let from = 2 * i;
-        if from + 1 >= steps.len() {
+    while i + 2 < steps.len() {
+        let port = step(packer, steps[i], steps[i + 1], &mut output[at..]);
+        let taken = after(port, steps[i + 2], at, end);
+        if !taken.agrees {
             return i;
         }
-        match step(packer, steps[from], steps[from + 1], &mut output[at..]) {
-            Written::Emitted(next, count) => {
-                if emitted[i] != count as u64 {
-                    return i;
-                }
-                if count > output.len() - at {
-                    return i;
-                }
-                packer = next;
-                at += count;
-            }
-            Written::Refused(_) => {
-                return i;
-            }
-        }
-        i += 1;
+        packer = taken.packer;
+        at = taken.at;
+        i += 3;
     }
     i
 }
@@ -57,38 +79,32 @@ fn same_bytes(a: &[u8; BYTES], b: &[u8; BYTES]) -> bool {
     check::same(&a[..], &b[..])
 }
 
-// The steps, and what is recorded of each and of the stream. Every byte of the output is compared, those
-// past the stream with what they were before.
-fn compare(steps: &[u64], emitted: &[u64], stream: &[u64]) -> Verdict {
+// Every byte of the output is compared, those past the stream with what they were before.
+fn compare(steps: &[u64], stream: &[u64]) -> Verdict {
     let mut output = [BEFORE; BYTES];
-    let mut recorded = [BEFORE; BYTES];
-    let agreed = take_steps(steps, emitted, &mut output);
-    if agreed < emitted.len() {
+    let stop = take_steps(steps, &mut output);
+    if stop < steps.len() {
         say(b"the port answers otherwise at step ");
-        say_number(agreed as u64);
+        say_number((stop / 3) as u64);
         return Verdict::Differed;
     }
+    let mut recorded = [BEFORE; BYTES];
     words::unpack(stream, &mut recorded);
-    if !same_bytes(&output, &recorded) {
-        say(b"the port answers with other bytes");
-        return Verdict::Differed;
+    if same_bytes(&output, &recorded) {
+        return Verdict::Agreed;
     }
-    Verdict::Agreed
+    say(b"the port answers with other bytes");
+    Verdict::Differed
 }
 
 pub fn run(numbers: &[u64]) -> Verdict {
     let end = line::list_end(numbers);
-    if end == 0 {
+    if end % 3 != 1 {
         return Verdict::Malformed;
     }
-    let recorded = &numbers[end..];
-    let count = (end - 1) / 2;
-    if count > recorded.len() {
-        return Verdict::Malformed;
-    }
-    let stream = &recorded[count..];
+    let stream = &numbers[end..];
     if words::bytes_end(stream) != stream.len() {
         return Verdict::Malformed;
     }
-    compare(&numbers[1..end], &recorded[0..count], stream)
+    compare(&numbers[1..end], stream)
 }

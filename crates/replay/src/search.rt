@@ -4,7 +4,6 @@ ghost use Prim.Native.Nat.{_≤_};
 ghost use lib.ListN.{length};
 use crate::answer::ROOM;
 use crate::answer::Verdict;
-use crate::column;
 use crate::column::LARGEST_INDEX;
 use crate::say::say;
 use crate::say::say_number;
@@ -33,24 +32,47 @@ fn first_difference(recorded: &[u64], positions: &[u32; ROOM]) -> usize {
     ROOM
 }
 
-fn compare_ids(recorded: &[u64], positions: &[u32; ROOM], found: usize) -> Verdict {
+// The number of a refusal or 0, and how many ids were found.
+struct Outcome {
+    refusal: u64,
+    found: usize,
+}
+
+fn outcome_of(port: Found) -> Outcome {
+    match port {
+        Found::Ids(found) => Outcome { refusal: 0, found },
+        Found::Refused(why) => Outcome {
+            refusal: why.number() as u64,
+            found: 0,
+        },
+    }
+}
+
+// A refusal, too, leaves every position as it was.
+fn compare(recorded: &[u64], positions: &[u32; ROOM], port: Outcome) -> Verdict {
     if recorded.len() == 0 {
         return Verdict::Malformed;
     }
     let ids = &recorded[1..];
     let place = first_difference(ids, positions);
-    if recorded[0] == 0 {
-        if found == ids.len() {
+    if recorded[0] == port.refusal {
+        if ids.len() == port.found {
             if place == ROOM {
                 return Verdict::Agreed;
             }
         }
     }
-    say(b"the port answers with this many ids: ");
-    say_number(found as u64);
-    say(b", and the first position that differs is ");
-    say_number(place as u64);
+    show(port, place);
     Verdict::Differed
+}
+
+fn show(port: Outcome, place: usize) {
+    say(b"the port answers ");
+    say_number(port.refusal);
+    say(b" and finds as many ids as ");
+    say_number(port.found as u64);
+    say(b"; the first position that differs is ");
+    say_number(place as u64);
 }
 
 // Searches with so many positions lent.
@@ -65,18 +87,15 @@ fn search_with_room(
     requires { ⌜ (5 ≤ length (now rest)) × (room ≤ 8192) ⌝ }
 {
     let mut positions = [BEFORE; ROOM];
-    let port = unpacker.get_ids_for_value_range(
+    let port = outcome_of(unpacker.get_ids_for_value_range(
         rest[0],
         rest[1],
         start,
         end,
         data,
         &mut positions[0..room],
-    );
-    match port {
-        Found::Ids(found) => compare_ids(&rest[5..], &positions, found),
-        Found::Refused(why) => column::compare_refusal(&rest[5..], why),
-    }
+    ));
+    compare(&rest[5..], &positions, port)
 }
 
 pub fn search(unpacker: BitUnpacker, data: &[u8], rest: &[u64]) -> Verdict {

@@ -79,16 +79,20 @@ pub fn end(counts: &mut [u64; COUNTS], numbers: &[u64], line: &[u8]) {
 
 // The file is over, with so many bytes after its last line end.
 pub fn finish_file(counts: &mut [u64; COUNTS], left: usize) {
-    if left > 0 {
-        add_one(counts, LINES);
-        malformed(counts, b"cut short, or longer than the buffer");
-        return;
+    let lines = counts[LINES];
+    let ended = counts[ENDED];
+    if left == 0 {
+        if ended > 0 {
+            if ended == lines {
+                return;
+            }
+        }
     }
-    if counts[ENDED] == 0 {
-        malformed(counts, b"cut short: there is no line that ends the file");
-    } else if counts[ENDED] < counts[LINES] {
-        malformed(counts, b"this comes after the line that ends the file");
-    }
+    add_one(counts, LINES);
+    malformed(
+        counts,
+        b"the file is cut short, or a line is longer than the buffer",
+    );
 }
 
 // A kind of which no case was met is passed over.

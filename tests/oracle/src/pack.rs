@@ -1,5 +1,5 @@
-//! `pack COUNT WIDTH0 VALUE0 WIDTH1 VALUE1 .. ANSWER`: values of mixed widths with flushes anywhere among
-//! them, where the width is 100. The answer is how many bytes each step emitted, then the bytes.
+//! `pack COUNT WIDTH0 VALUE0 EMITTED0 WIDTH1 VALUE1 EMITTED1 .. STREAM`: values of mixed widths with flushes
+//! anywhere among them, where the width is 100; each step with how many bytes it emitted, then the bytes.
 
 use std::io::{self, Write};
 
@@ -25,31 +25,27 @@ pub fn write(count: u64, mut draw: Draw, out: &mut impl Write) -> io::Result<()>
     let mut edges = spread(edges(&mut draw), count);
     for _ in 0..count {
         let steps = edges.next().unwrap_or_else(|| random(&mut draw));
-        let numbers: Vec<u64> = [2 * steps.len() as u64]
-            .into_iter()
-            .chain(steps.iter().flat_map(|step| [step.width, step.value]))
-            .collect();
-        line::write(out, "pack", &numbers, &answer(&steps))?;
+        write_case(&steps, out)?;
     }
     Ok(())
 }
 
-fn answer(steps: &[Step]) -> Vec<u64> {
+fn write_case(steps: &[Step], out: &mut impl Write) -> io::Result<()> {
     let mut packer = BitPacker::new();
     let mut stream = Vec::new();
-    let mut numbers = Vec::new();
+    let mut numbers = vec![3 * steps.len() as u64];
     for step in steps {
         let before = stream.len();
         if step.width == FLUSH {
-            packer.flush(&mut stream)
+            packer.flush(&mut stream)?;
         } else {
-            packer.write(step.value, step.width as u8, &mut stream)
+            packer.write(step.value, step.width as u8, &mut stream)?;
         }
-        .expect("a vector takes every write");
-        numbers.push((stream.len() - before) as u64);
+        let emitted = (stream.len() - before) as u64;
+        numbers.extend([step.width, step.value, emitted]);
     }
-    numbers.extend(line::bytes(&stream));
-    numbers
+    let stream: Vec<u64> = line::bytes(&stream).collect();
+    line::write(out, "pack", &numbers, &stream)
 }
 
 fn largest(width: u64) -> u64 {
