@@ -1,7 +1,7 @@
 // What the port makes of a case, held to the recorded answer.
 ghost use Prim.Native.Nat.{_≤_};
 use crate::say::say;
-use libc::STDOUT_FILENO;
+use crate::say::say_number;
 
 // How many numbers a line may hold, and an answer too.
 pub const ROOM: usize = 8192;
@@ -12,37 +12,32 @@ pub enum Verdict {
     Malformed,
 }
 
-fn same(recorded: &[u64], answer: &[u64]) -> bool {
-    if recorded.len() != answer.len() {
-        return false;
-    }
+// How many numbers the two begin with that are the same.
+fn common(recorded: &[u64], answer: &[u64]) -> usize {
     let mut i = 0;
     while i < recorded.len() {
+        if i >= answer.len() {
+            return i;
+        }
         if recorded[i] != answer[i] {
-            return false;
+            return i;
         }
         i += 1;
     }
-    true
+    i
 }
 
-// Begins the line on a difference, which the tally ends with the case.
-fn show(answer: &[u64]) {
-    say(b"the port answers");
-    let mut i = 0;
-    while i < answer.len() {
-        say(b" ");
-        io::print_hex(STDOUT_FILENO, answer[i], 1);
-        i += 1;
-    }
-}
-
-// Whether the recorded answer is the port's, no longer and no shorter.
+// Whether the recorded answer is the port's, no longer and no shorter. The tally ends what is said of a
+// difference.
 pub fn compare(recorded: &[u64], answer: &[u64]) -> Verdict {
-    if same(recorded, answer) {
-        return Verdict::Agreed;
+    let same = common(recorded, answer);
+    if same == recorded.len() {
+        if same == answer.len() {
+            return Verdict::Agreed;
+        }
     }
-    show(answer);
+    say(b"the port answers otherwise from number ");
+    say_number(same as u64);
     Verdict::Differed
 }
 

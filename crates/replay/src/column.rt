@@ -1,6 +1,6 @@
 // What is asked of a bare column: `KIND WIDTH BYTES WORD0 WORD1 ..`, the column, then the question, then
 // the answer: 0 and what was read, or the number of a refusal alone.
-ghost use Prim.Native.Nat.{_<_, _≤_};
+ghost use Prim.Native.Nat.{_≤_};
 use crate::answer;
 use crate::answer::ROOM;
 use crate::answer::Verdict;
@@ -32,34 +32,24 @@ pub fn narrow(width: u64) -> u8 {
     if width > 255 { 255 } else { width as u8 }
 }
 
-fn compare_value(recorded: &[u64], port: Got) -> Verdict {
-    match port {
+// `INDEX`, answered by the value.
+fn get(unpacker: BitUnpacker, data: &[u8], index: u32, recorded: &[u64]) -> Verdict {
+    match unpacker.get(index, data) {
         Got::Value(value) => answer::compare(recorded, &[0, value]),
         Got::Refused(why) => compare_refusal(recorded, why),
     }
 }
 
-// `INDEX`, answered by the value.
-fn get(unpacker: BitUnpacker, data: &[u8], rest: &[u64]) -> Verdict {
+// `START COUNT`, answered by the values.
+fn range(unpacker: BitUnpacker, data: &[u8], start: u32, rest: &[u64]) -> Verdict {
     if rest.len() == 0 {
         return Verdict::Malformed;
     }
-    let index = rest[0];
-    if index > LARGEST_INDEX {
+    let count = rest[0] as usize;
+    if count >= ROOM {
         return Verdict::Malformed;
     }
-    compare_value(&rest[1..], unpacker.get(index as u32, data))
-}
-
-fn range_of(
-    unpacker: BitUnpacker,
-    data: &[u8],
-    start: u32,
-    count: usize,
-    recorded: &[u64],
-) -> Verdict
-    requires { ⌜ count < 8192 ⌝ }
-{
+    let recorded = &rest[1..];
     let mut answer = [0; ROOM];
     match unpacker.get_range(start, data, &mut answer[1..count + 1]) {
         Filled::Done => answer::compare_first(recorded, &answer, count + 1),
@@ -67,43 +57,50 @@ fn range_of(
     }
 }
 
-// `START COUNT`, answered by the values.
-fn range(unpacker: BitUnpacker, data: &[u8], rest: &[u64]) -> Verdict {
-    if rest.len() < 2 {
-        return Verdict::Malformed;
+// What is asked of an unpacker: a first index, and what is left of the line.
+fn ask(
+    question: Question,
+    unpacker: BitUnpacker,
+    data: &[u8],
+    start: u32,
+    rest: &[u64],
+) -> Verdict {
+    match question {
+        Question::Get => get(unpacker, data, start, rest),
+        Question::Range => range(unpacker, data, start, rest),
+        Question::Search => search::search(unpacker, data, start, rest),
     }
-    let start = rest[0];
-    let count = rest[1] as usize;
-    if start > LARGEST_INDEX {
-        return Verdict::Malformed;
-    }
-    if count >= ROOM {
-        return Verdict::Malformed;
-    }
-    range_of(unpacker, data, start as u32, count, &rest[2..])
 }
 
 // The column is the first bytes of an array.
-fn ask(question: Question, width: u64, bytes: &[u8; BYTES], count: usize, rest: &[u64]) -> Verdict
+fn open(question: Question, width: u64, bytes: &[u8; BYTES], count: usize, rest: &[u64]) -> Verdict
     requires { ⌜ count ≤ 32768 ⌝ }
 {
+    if rest.len() == 0 {
+        return Verdict::Malformed;
+    }
+    let start = rest[0];
+    if start > LARGEST_INDEX {
+        return Verdict::Malformed;
+    }
     let whole = &bytes[..];
-    let data = &whole[0..count];
     match BitUnpacker::new(narrow(width)) {
-        Made::Unpacker(unpacker) => match question {
-            Question::Get => get(unpacker, data, rest),
-            Question::Range => range(unpacker, data, rest),
-            Question::Search => search::search(unpacker, data, rest),
-        },
-        Made::Refused(why) => compare_refusal(rest, why),
+        Made::Unpacker(unpacker) => ask(
+            question,
+            unpacker,
+            &whole[0..count],
+            start as u32,
+            &rest[1..],
+        ),
+        Made::Refused(why) => compare_refusal(&rest[1..], why),
     }
 }
 
 // The column's bytes are unpacked, and the question is asked of them.
-fn ask_packed(question: Question, width: u64, packed: &[u64], rest: &[u64]) -> Verdict {
+fn unpack(question: Question, width: u64, packed: &[u64], rest: &[u64]) -> Verdict {
     let mut data = [0; BYTES];
     let count = words::unpack(packed, &mut data);
-    ask(question, width, &data, count, rest)
+    open(question, width, &data, count, rest)
 }
 
 pub fn run(question: Question, numbers: &[u64]) -> Verdict {
@@ -115,5 +112,5 @@ pub fn run(question: Question, numbers: &[u64]) -> Verdict {
     if end == 0 {
         return Verdict::Malformed;
     }
-    ask_packed(question, numbers[0], &column[0..end], &column[end..])
+    unpack(question, numbers[0], &column[0..end], &column[end..])
 }

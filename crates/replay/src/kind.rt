@@ -11,26 +11,29 @@ use crate::width;
 
 pub const KINDS: usize = 7;
 
-// Stands behind the kinds in the table: the file's last line counts its lines, so that a file that was
-// cut short is known.
+// Two entries stand behind the kinds in the table. The input's last line counts its lines, so that an
+// input that was cut short is known.
 pub const END: usize = KINDS;
 
-const ENTRIES: usize = KINDS + 1;
+// Any other line: it is malformed.
+pub const LINE: usize = KINDS + 1;
+
+pub const ENTRIES: usize = KINDS + 2;
 
 // Each entry's word, filled up with spaces.
 pub const ENTRY: usize = 8;
 
 pub const WORDS: [u8; ENTRY * ENTRIES] =
-    *b"width   minmax  minmaxf pack    get     range   search  end     ";
+    *b"width   minmax  minmaxf pack    get     range   search  end     line    ";
 
-// The place of a word in the table, or the table's length where it has none.
+// The place of a word in the table.
 pub fn of(word: &[u8]) -> usize {
-    for place in 0..ENTRIES {
+    for place in 0..LINE {
         if is_word(place, word) {
             return place;
         }
     }
-    ENTRIES
+    LINE
 }
 
 fn is_word(place: usize, word: &[u8]) -> bool

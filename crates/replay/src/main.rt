@@ -1,5 +1,5 @@
-// Runs cases with the Rust's answers through the port, and compares. The cases come from the files
-// that the arguments name, or else from standard input; tests/README.md has their form.
+// Runs cases with the Rust's answers through the port, and compares. The cases come from the file
+// that the first argument names, or else from standard input; tests/README.md has their form.
 mod answer;
 mod column;
 mod input;
@@ -22,7 +22,6 @@ use kind::KINDS;
 use libc::STDIN_FILENO;
 use line::Numbers;
 use tally::COUNTS;
-use tally::ENDED;
 use tally::LINES;
 
 // A case whose line is read: its numbers are the question, then the recorded answer.
@@ -30,7 +29,7 @@ fn judge_case(kind: usize, numbers: &[u64], line: &[u8], counts: &mut [u64; COUN
     requires { ⌜ kind < 7 ⌝ }
 {
     match kind::run(kind, numbers) {
-        Verdict::Agreed => tally::agree(counts, kind),
+        Verdict::Agreed => tally::add_one(counts, kind),
         Verdict::Differed => tally::differ(counts, kind, line),
         Verdict::Malformed => tally::malformed(counts, line),
     }
@@ -96,38 +95,29 @@ fn judge_input(
     1
 }
 
-fn judge_file(fd: i32, counts: &mut [u64; COUNTS]) {
-    let mut buffer = [0u8; 262144];
-    let mut numbers = [0u64; ROOM];
-    counts[LINES] = 0;
-    counts[ENDED] = 0;
-    let left = judge_input(fd, &mut buffer, &mut numbers, counts);
-    tally::finish_file(counts, left);
+fn judge_file(fd: i32) {
+    let mut buffer = [0; 262144];
+    let mut numbers = [0; ROOM];
+    let mut counts = [0; COUNTS];
+    let left = judge_input(fd, &mut buffer, &mut numbers, &mut counts);
+    tally::finish(&mut counts, left);
+    tally::report(&counts);
 }
 
-// The file that an argument names. One that cannot be opened is no agreement.
-fn judge_named(place: usize, counts: &mut [u64; COUNTS]) {
+// A file that cannot be opened is said on standard error, and no case is reported.
+fn main() {
+    if os::arg_count() < 2 {
+        judge_file(STDIN_FILENO);
+        return;
+    }
     let mut path = io::buffer();
-    let n = os::arg(place, &mut path);
+    let n = os::arg(1, &mut path);
     let name = &path[..n];
     let fd = os::open_read(name);
     if fd < 0 {
         os::fail(name);
-        tally::malformed(counts, b"the file cannot be opened");
         return;
     }
-    judge_file(fd, counts);
+    judge_file(fd);
     libc::close(fd);
-}
-
-fn main() {
-    let mut counts = [0; COUNTS];
-    let arguments = os::arg_count();
-    if arguments < 2 {
-        judge_file(STDIN_FILENO, &mut counts);
-    }
-    for place in 1..arguments {
-        judge_named(place, &mut counts);
-    }
-    tally::report(&counts);
 }

@@ -83,17 +83,15 @@ fn same_bytes(a: &[u8; BYTES], b: &[u8; BYTES]) -> bool {
 fn compare(steps: &[u64], stream: &[u64]) -> Verdict {
     let mut output = [BEFORE; BYTES];
     let stop = take_steps(steps, &mut output);
-    if stop < steps.len() {
-        say(b"the port answers otherwise at step ");
-        say_number((stop / 3) as u64);
-        return Verdict::Differed;
-    }
     let mut recorded = [BEFORE; BYTES];
     words::unpack(stream, &mut recorded);
-    if same_bytes(&output, &recorded) {
-        return Verdict::Agreed;
+    if stop == steps.len() {
+        if same_bytes(&output, &recorded) {
+            return Verdict::Agreed;
+        }
     }
-    say(b"the port answers with other bytes");
+    say(b"the port answers otherwise from number ");
+    say_number(stop as u64);
     Verdict::Differed
 }
 

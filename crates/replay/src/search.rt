@@ -1,4 +1,4 @@
-// `search`: `LO HI START END ROOM`, answered by the ids from START to before END whose value lies in
+// `search`: `START END LO HI ROOM`, answered by the ids from START to before END whose value lies in
 // LO..=HI. ROOM is how many positions are lent.
 ghost use Prim.Native.Nat.{_≤_};
 ghost use lib.ListN.{length};
@@ -32,87 +32,64 @@ fn first_difference(recorded: &[u64], positions: &[u32; ROOM]) -> usize {
     ROOM
 }
 
-// The number of a refusal or 0, and how many ids were found.
-struct Outcome {
-    refusal: u64,
-    found: usize,
-}
-
-fn outcome_of(port: Found) -> Outcome {
-    match port {
-        Found::Ids(found) => Outcome { refusal: 0, found },
-        Found::Refused(why) => Outcome {
-            refusal: why.number() as u64,
-            found: 0,
-        },
-    }
-}
-
-// A refusal, too, leaves every position as it was.
-fn compare(recorded: &[u64], positions: &[u32; ROOM], port: Outcome) -> Verdict {
+// Whether the ids are those recorded, and every other position is as it was; after a refusal every one.
+fn compare(recorded: &[u64], positions: &[u32; ROOM], refusal: u64, found: usize) -> Verdict {
     if recorded.len() == 0 {
         return Verdict::Malformed;
     }
     let ids = &recorded[1..];
     let place = first_difference(ids, positions);
-    if recorded[0] == port.refusal {
-        if ids.len() == port.found {
+    if recorded[0] == refusal {
+        if ids.len() == found {
             if place == ROOM {
                 return Verdict::Agreed;
             }
         }
     }
-    show(port, place);
-    Verdict::Differed
-}
-
-fn show(port: Outcome, place: usize) {
-    say(b"the port answers ");
-    say_number(port.refusal);
-    say(b" and finds as many ids as ");
-    say_number(port.found as u64);
-    say(b"; the first position that differs is ");
+    say(b"the port answers otherwise from position ");
     say_number(place as u64);
+    Verdict::Differed
 }
 
 // Searches with so many positions lent.
 fn search_with_room(
     unpacker: BitUnpacker,
     data: &[u8],
-    rest: &[u64],
     start: u32,
     end: u32,
     room: usize,
+    rest: &[u64],
 ) -> Verdict
-    requires { ⌜ (5 ≤ length (now rest)) × (room ≤ 8192) ⌝ }
+    requires { ⌜ (4 ≤ length (now rest)) × (room ≤ 8192) ⌝ }
 {
     let mut positions = [BEFORE; ROOM];
-    let port = outcome_of(unpacker.get_ids_for_value_range(
-        rest[0],
+    let port = unpacker.get_ids_for_value_range(
         rest[1],
+        rest[2],
         start,
         end,
         data,
         &mut positions[0..room],
-    ));
-    compare(&rest[5..], &positions, port)
+    );
+    let recorded = &rest[4..];
+    match port {
+        Found::Ids(found) => compare(recorded, &positions, 0, found),
+        Found::Refused(why) => compare(recorded, &positions, why.number() as u64, 0),
+    }
 }
 
-pub fn search(unpacker: BitUnpacker, data: &[u8], rest: &[u64]) -> Verdict {
-    if rest.len() < 5 {
+// `END LO HI ROOM`.
+pub fn search(unpacker: BitUnpacker, data: &[u8], start: u32, rest: &[u64]) -> Verdict {
+    if rest.len() < 4 {
         return Verdict::Malformed;
     }
-    let start = rest[2];
-    let end = rest[3];
-    let room = rest[4] as usize;
-    if start > LARGEST_INDEX {
-        return Verdict::Malformed;
-    }
+    let end = rest[0];
     if end > LARGEST_INDEX {
         return Verdict::Malformed;
     }
+    let room = rest[3] as usize;
     if room > ROOM {
         return Verdict::Malformed;
     }
-    search_with_room(unpacker, data, rest, start as u32, end as u32, room)
+    search_with_room(unpacker, data, start, end as u32, room, rest)
 }

@@ -232,7 +232,7 @@ pub fn write_search(count: u64, mut draw: Draw, out: &mut impl Write) -> io::Res
             .collect();
         // Half of the searches are lent exactly as many positions as there are ids.
         let room = end.saturating_sub(start) + draw.below(2) * draw.below(40);
-        let question = [lowest, highest, start, end, room];
+        let question = [start, end, lowest, highest, room];
         column.write(out, "search", &question, &answer)?;
     }
     Ok(())

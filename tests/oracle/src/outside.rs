@@ -214,13 +214,8 @@ impl Case {
             }
             Question::Search { lowest, ids } => {
                 let room = ids.len() as u64;
-                let question = [
-                    *lowest,
-                    u64::MAX,
-                    u64::from(ids.start),
-                    u64::from(ids.end),
-                    room,
-                ];
+                let (start, end) = (u64::from(ids.start), u64::from(ids.end));
+                let question = [start, end, *lowest, u64::MAX, room];
                 self.column.write(out, "search", &question, &answer)
             }
         }

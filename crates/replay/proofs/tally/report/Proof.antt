@@ -1,14 +1,14 @@
--- `replay::tally::report` is safe and ends: each turn is at the counts of a kind.
+-- `replay::tally::report` is safe and ends: each turn is at the counts of an entry.
 use borrow.Author.Needs.{needs}
 use Prim.Native.Nat.{_≤_, _-_}
 use Rattle.replay.proofs.tally.report.Statement.{statement}
 use Rattle.replay.proofs.tally.report.Tie as tie
 
 abbrev Inv-loop : tie.InvT-loop
-Inv-loop counts kind₀ kind = kind ≤ 7
+Inv-loop counts place₀ place = place ≤ 9
 
 abbrev μ-loop : tie.MeasureT-loop
-μ-loop counts kind₀ kind = 7 - kind
+μ-loop counts place₀ place = 9 - place
 
 loop-holds : tie.Need-loop-holds Inv-loop μ-loop
 loop-holds c = search needs
@@ -31,23 +31,14 @@ element-copy-out-report-kind-2 c = search needs
 report-kind-requires : tie.Need-report-kind-requires Inv-loop μ-loop
 report-kind-requires c κs = search needs
 
-add-kind : tie.Need-add-kind Inv-loop μ-loop
-add-kind c = search needs
+add-place : tie.Need-add-place Inv-loop μ-loop
+add-place c = search needs
 
 loop-less : tie.Need-loop-less Inv-loop μ-loop
 loop-less c = search needs
 
 loop-again : tie.Need-loop-again Inv-loop μ-loop
 loop-again c = search needs
-
-element-copy-out-report-all : tie.Need-element-copy-out-report-all Inv-loop μ-loop
-element-copy-out-report-all c = search needs
-
-element-copy-out-report-all-2 : tie.Need-element-copy-out-report-all-2 Inv-loop μ-loop
-element-copy-out-report-all-2 c = search needs
-
-report-all-requires : tie.Need-report-all-requires Inv-loop μ-loop
-report-all-requires c κs = search needs
 
 returns : tie.Need-returns Inv-loop μ-loop
 returns c = search needs
@@ -65,10 +56,7 @@ report-spec =
     mul-report-kind-2
     element-copy-out-report-kind-2
     report-kind-requires
-    add-kind
+    add-place
     loop-less
     loop-again
-    element-copy-out-report-all
-    element-copy-out-report-all-2
-    report-all-requires
     returns)

@@ -1,9 +1,9 @@
--- `replay::answer::same` is safe and ends: each turn leaves less of the recorded answer.
+-- `replay::answer::common` is safe and ends: each turn leaves less of the recorded answer.
 use borrow.Author.Needs.{needs}
 use Prim.Native.Nat.{_≤_, _-_}
 use lib.ListN.{length}
-use Rattle.replay.proofs.answer.same.Statement.{statement}
-use Rattle.replay.proofs.answer.same.Tie as tie
+use Rattle.replay.proofs.answer.common.Statement.{statement}
+use Rattle.replay.proofs.answer.common.Tie as tie
 
 abbrev Inv-loop : tie.InvT-loop
 Inv-loop recorded answer i₀ i = i ≤ length recorded
@@ -11,11 +11,11 @@ Inv-loop recorded answer i₀ i = i ≤ length recorded
 abbrev μ-loop : tie.MeasureT-loop
 μ-loop recorded answer i₀ i = length recorded - i
 
-returns : tie.Need-returns Inv-loop μ-loop
-returns c = search needs
-
 loop-holds : tie.Need-loop-holds Inv-loop μ-loop
 loop-holds c = search needs
+
+returns : tie.Need-returns Inv-loop μ-loop
+returns c = search needs
 
 mul-if2 : tie.Need-mul-if2 Inv-loop μ-loop
 mul-if2 c = search needs
@@ -44,14 +44,14 @@ loop-again c = search needs
 returns-3 : tie.Need-returns-3 Inv-loop μ-loop
 returns-3 c = search needs
 
-pub same-spec : {M : Type 1} → statement M
-same-spec =
+pub common-spec : {M : Type 1} → statement M
+common-spec =
     tie.close
     (tie.spec
     Inv-loop
     μ-loop
-    returns
     loop-holds
+    returns
     mul-if2
     shared-slice-read-if2
     mul-if2-2
