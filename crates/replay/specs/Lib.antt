@@ -1,2 +1,3 @@
--- What the contracts of a line's reading cite.
+-- What the contracts of reading a line cite.
 pub mod Line
+pub mod Words

@@ -1,46 +1,50 @@
 // What the port makes of a case, held to the recorded answer.
-use libc::STDOUT_FILENO;
+ghost use Prim.Native.Nat.{_≤_};
+use crate::say::say;
+use crate::say::say_number;
 
 // How many numbers a line may hold, and an answer too.
 pub const ROOM: usize = 8192;
 
-// What a kind's function makes of a line's numbers.
-pub enum Run {
-    // So many of the numbers are the question, and so many of the lent answer are the port's.
-    Answered(usize, usize),
+pub enum Verdict {
+    Agreed,
+    Differed,
     Malformed,
 }
 
-// Whether the numbers after the question are the port's answer, no more and no fewer.
-pub fn agrees(numbers: &[u64], question: usize, answer: &[u64; ROOM], count: usize) -> bool {
-    if question > numbers.len() {
-        return false;
-    }
-    let recorded = &numbers[question..];
-    if recorded.len() != count {
-        return false;
-    }
-    if count > ROOM {
-        return false;
-    }
+// How many numbers the two begin with that are the same.
+fn common(recorded: &[u64], answer: &[u64]) -> usize {
     let mut i = 0;
     while i < recorded.len() {
+        if i >= answer.len() {
+            return i;
+        }
         if recorded[i] != answer[i] {
-            return false;
+            return i;
         }
         i += 1;
     }
-    true
+    i
 }
 
-// Begins the line on a difference, which the tally ends with the case.
-pub fn show(answer: &[u64; ROOM], count: usize) {
-    io::write_all(STDOUT_FILENO, b"the port answers");
-    for i in 0..ROOM {
-        if i >= count {
-            break;
+// Whether the recorded answer is the port's, no longer and no shorter. The tally ends what is said of a
+// difference.
+pub fn compare(recorded: &[u64], answer: &[u64]) -> Verdict {
+    let same = common(recorded, answer);
+    if same == recorded.len() {
+        if same == answer.len() {
+            return Verdict::Agreed;
         }
-        io::write_all(STDOUT_FILENO, b" ");
-        io::print_hex(STDOUT_FILENO, answer[i], 1);
     }
+    say(b"the port answers otherwise from number ");
+    say_number(same as u64);
+    Verdict::Differed
+}
+
+// The same of an answer that is the first numbers of an array.
+pub fn compare_first(recorded: &[u64], answer: &[u64; ROOM], count: usize) -> Verdict
+    requires { ⌜ count ≤ 8192 ⌝ }
+{
+    let whole = &answer[..];
+    compare(recorded, &whole[0..count])
 }

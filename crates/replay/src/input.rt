@@ -1,26 +1,7 @@
-// The input through a buffer: which of its bytes are read and not yet used.
-ghost use Prim.Native.Nat.{_+_, _≤_};
+// The input through a buffer: bytes that are read and not yet used wait at its start.
+ghost use Prim.Native.Nat.{_+_, _-_, _≤_};
 ghost use mathlib.Core.Path.{_≡_};
 ghost use lib.ListN.{length};
-
-// The bytes from at to before end wait. more says whether the last read gave any.
-pub struct Window {
-    pub at: usize,
-    pub end: usize,
-    pub more: bool,
-}
-
-impl Window {
-    pub fn new() -> Self
-        ensures { λ r. ⌜ (r .at ≡ 0) × (r .end ≡ 0) ⌝ }
-    {
-        Self {
-            at: 0,
-            end: 0,
-            more: true,
-        }
-    }
-}
 
 // Moves n bytes from index from on to the buffer's start.
 fn shift(buffer: &mut [u8], from: usize, n: usize)
@@ -33,19 +14,23 @@ fn shift(buffer: &mut [u8], from: usize, n: usize)
     }
 }
 
-// Moves the waiting bytes to the buffer's start, and reads more behind them.
-pub fn refill(fd: i32, buffer: &mut [u8], window: Window) -> Window
-    requires { ⌜ (window .at ≤ window .end) × (window .end ≤ length (now buffer)) ⌝ }
-    ensures { λ r. ⌜ (r .at ≤ r .end) × (r .end ≤ length (now (buffer .exit))) ⌝ }
+// Reads more behind the bytes that wait, and answers where they end then: where they did, at the
+// input's end or where the buffer is full.
+pub fn read_behind(fd: i32, buffer: &mut [u8], waiting: usize) -> usize
+    requires { ⌜ waiting ≤ length (now buffer) ⌝ }
+    ensures { λ r. ⌜ (waiting ≤ r) × (r ≤ length (now (buffer .exit))) ⌝ }
 {
-    let left = window.end - window.at;
-    shift(buffer, window.at, left);
-    let room = &mut buffer[left..];
+    let room = &mut buffer[waiting..];
     let got = libc::read(fd, room);
-    let n = io::count(got, room);
-    Window {
-        at: 0,
-        end: left + n,
-        more: n > 0,
-    }
+    waiting + io::count(got, room)
+}
+
+// Moves the bytes from an index to before end to the buffer's start, and answers how many wait.
+pub fn keep_from(buffer: &mut [u8], from: usize, end: usize) -> usize
+    requires { ⌜ (from ≤ end) × (end ≤ length (now buffer)) ⌝ }
+    ensures { λ r. ⌜ r ≡ end - from ⌝ }
+{
+    let waiting = end - from;
+    shift(buffer, from, waiting);
+    waiting
 }

@@ -1,69 +1,59 @@
 // The kinds of cases: the word that a line starts with, the place in the tally, and the function
 // that asks the port.
 ghost use Prim.Native.Nat.{_<_};
-use crate::answer::ROOM;
-use crate::answer::Run;
+use crate::answer::Verdict;
+use crate::column;
+use crate::column::Question;
+use crate::line;
 use crate::minmax;
+use crate::pack;
 use crate::width;
-use libc::STDOUT_FILENO;
 
-pub const KINDS: usize = 3;
+pub const KINDS: usize = 7;
 
-pub enum Kind {
-    Width,
-    MinMax,
-    MinMaxF,
+// Two entries stand behind the kinds in the table. The input's last line counts its lines, so that an
+// input that was cut short is known.
+pub const END: usize = KINDS;
+
+// Any other line: it is malformed.
+pub const LINE: usize = KINDS + 1;
+
+pub const ENTRIES: usize = KINDS + 2;
+
+// Each entry's word, filled up with spaces.
+pub const ENTRY: usize = 8;
+
+pub const WORDS: [u8; ENTRY * ENTRIES] =
+    *b"width   minmax  minmaxf pack    get     range   search  end     line    ";
+
+// The place of a word in the table.
+pub fn of(word: &[u8]) -> usize {
+    for place in 0..LINE {
+        if is_word(place, word) {
+            return place;
+        }
+    }
+    LINE
 }
 
-pub enum Word {
-    Case(Kind),
-    // The input's last line counts its lines, so that an input that was cut short is known.
-    End,
-    Unknown,
+fn is_word(place: usize, word: &[u8]) -> bool
+    requires { ⌜ place < 8 ⌝ }
+{
+    let from = ENTRY * place;
+    let entry = &WORDS[from..from + ENTRY];
+    let end = line::word_end(entry);
+    check::same(&entry[0..end], word)
 }
 
-pub fn of(word: &[u8]) -> Word {
-    if check::same(word, b"width") {
-        return Word::Case(Kind::Width);
-    }
-    if check::same(word, b"minmax") {
-        return Word::Case(Kind::MinMax);
-    }
-    if check::same(word, b"minmaxf") {
-        return Word::Case(Kind::MinMaxF);
-    }
-    if check::same(word, b"end") {
-        return Word::End;
-    }
-    Word::Unknown
-}
-
-// Writes the word of the kind at a place.
-pub fn print_word(place: usize) {
+// Has the port answer the case of the kind at a place.
+pub fn run(place: usize, numbers: &[u64]) -> Verdict {
     match place {
-        0 => io::write_all(STDOUT_FILENO, b"width"),
-        1 => io::write_all(STDOUT_FILENO, b"minmax"),
-        _ => io::write_all(STDOUT_FILENO, b"minmaxf"),
-    }
-    ;
-}
-
-impl Kind {
-    pub fn place(self) -> usize
-        ensures { λ r. do ⌜ r < (← ⟦KINDS⟧ .entry) ⌝ }
-    {
-        match self {
-            Kind::Width => 0,
-            Kind::MinMax => 1,
-            Kind::MinMaxF => 2,
-        }
-    }
-
-    pub fn run(self, numbers: &[u64], answer: &mut [u64; ROOM]) -> Run {
-        match self {
-            Kind::Width => width::run(numbers, answer),
-            Kind::MinMax => minmax::run_u64(numbers, answer),
-            Kind::MinMaxF => minmax::run_f64(numbers, answer),
-        }
+        0 => width::run(numbers),
+        1 => minmax::run(numbers, false),
+        2 => minmax::run(numbers, true),
+        3 => pack::run(numbers),
+        4 => column::run(Question::Get, numbers),
+        5 => column::run(Question::Range, numbers),
+        _ => column::run(Question::Search, numbers),
     }
 }

@@ -2,33 +2,18 @@
 // 1, the lowest and the highest. In `minmaxf` each value is the pattern of a 64-bit float.
 ghost use Prim.Native.Nat.{_≤_};
 ghost use lib.ListN.{length};
+use crate::answer;
 use crate::answer::ROOM;
-use crate::answer::Run;
+use crate::answer::Verdict;
 use crate::line;
 use num_bits::MinMaxF64;
 use num_bits::MinMaxU64;
 
-fn put(port: MinMaxU64, question: usize, answer: &mut [u64; ROOM]) -> Run {
+fn compare(recorded: &[u64], port: MinMaxU64) -> Verdict {
     match port {
-        MinMaxU64::Nothing => {
-            answer[0] = 0;
-            Run::Answered(question, 1)
-        }
-        MinMaxU64::Of(lowest, highest) => {
-            answer[0] = 1;
-            answer[1] = lowest;
-            answer[2] = highest;
-            Run::Answered(question, 3)
-        }
+        MinMaxU64::Nothing => answer::compare(recorded, &[0]),
+        MinMaxU64::Of(lowest, highest) => answer::compare(recorded, &[1, lowest, highest]),
     }
-}
-
-pub fn run_u64(numbers: &[u64], answer: &mut [u64; ROOM]) -> Run {
-    let end = line::list_end(numbers);
-    if end == 0 {
-        return Run::Malformed;
-    }
-    put(num_bits::minmax_u64(&numbers[1..end]), end, answer)
 }
 
 const SIGN: u64 = 0x8000_0000_0000_0000;
@@ -60,7 +45,7 @@ fn patterns_of(port: MinMaxF64) -> MinMaxU64 {
 
 // The port's lowest and highest of the floats with these patterns.
 fn minmax_of_patterns(patterns: &[u64]) -> MinMaxU64
-    requires { do ⌜ length (now patterns) ≤ (← ⟦ROOM⟧) ⌝ }
+    requires { ⌜ length (now patterns) ≤ 8192 ⌝ }
 {
     let mut floats = [0.0; ROOM];
     let mut i = 0;
@@ -71,13 +56,18 @@ fn minmax_of_patterns(patterns: &[u64]) -> MinMaxU64
     patterns_of(num_bits::minmax_f64(&floats[0..i]))
 }
 
-pub fn run_f64(numbers: &[u64], answer: &mut [u64; ROOM]) -> Run {
+pub fn run(numbers: &[u64], are_floats: bool) -> Verdict {
     let end = line::list_end(numbers);
     if end == 0 {
-        return Run::Malformed;
+        return Verdict::Malformed;
     }
     if end > ROOM {
-        return Run::Malformed;
+        return Verdict::Malformed;
     }
-    put(minmax_of_patterns(&numbers[1..end]), end, answer)
+    let list = &numbers[1..end];
+    let recorded = &numbers[end..];
+    if are_floats {
+        return compare(recorded, minmax_of_patterns(list));
+    }
+    compare(recorded, num_bits::minmax_u64(list))
 }

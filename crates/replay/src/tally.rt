@@ -1,133 +1,101 @@
-// How many cases of each kind agreed and differed, and what is written of it.
+// How many cases of each kind agreed and differed. The counts stand in one lent array: those that agreed
+// by place in the table of kinds, those that differed by place, then the two places named below.
 ghost use Prim.Native.Nat.{_<_};
-use crate::kind;
-use crate::kind::KINDS;
-use crate::kind::Kind;
-use libc::STDOUT_FILENO;
+use crate::kind::ENTRIES;
+use crate::kind::ENTRY;
+use crate::kind::LINE;
+use crate::kind::WORDS;
+use crate::say::say;
+use crate::say::say_number;
 
-pub struct Tally {
-    agreed: [u64; KINDS],
-    differed: [u64; KINDS],
-    malformed: u64,
-    // Lines met so far, and whether the last of them was the line that ends the input.
-    lines: u64,
-    ended: bool,
-}
+pub const DIFFERED: usize = ENTRIES;
 
-// A sum that stays at the largest number instead of wrapping.
-fn plus(a: u64, b: u64) -> u64 {
-    if a > u64::MAX - b { u64::MAX } else { a + b }
-}
+// Lines met so far.
+pub const LINES: usize = 2 * ENTRIES;
 
-fn sum(counts: [u64; KINDS]) -> u64 {
-    let mut total = 0;
-    for k in 0..KINDS {
-        total = plus(total, counts[k]);
+// The line that ended the input, or 0.
+const ENDED: usize = LINES + 1;
+
+pub const COUNTS: usize = LINES + 2;
+
+// One more, unless that would wrap. (There are 20 places.)
+pub fn add_one(counts: &mut [u64; COUNTS], place: usize)
+    requires { ⌜ place < 20 ⌝ }
+{
+    let count = counts[place];
+    if count < u64::MAX {
+        counts[place] = count + 1;
     }
-    total
 }
 
-impl Tally {
-    pub fn new() -> Self {
-        Self {
-            agreed: [0; KINDS],
-            differed: [0; KINDS],
-            malformed: 0,
-            lines: 0,
-            ended: false,
+// Counts a difference of the kind at a place, and ends what is said of it with the line's number and the
+// line.
+pub fn differ(counts: &mut [u64; COUNTS], place: usize, line: &[u8])
+    requires { ⌜ place < 9 ⌝ }
+{
+    add_one(counts, DIFFERED + place);
+    say(b" at line ");
+    say_number(counts[LINES]);
+    say(b": ");
+    say(line);
+    say(b"\n");
+}
+
+// A malformed line is a difference of no kind.
+pub fn malformed(counts: &mut [u64; COUNTS], line: &[u8]) {
+    say(b"malformed");
+    differ(counts, LINE, line);
+}
+
+// The line `end COUNT`, which counts the lines and itself.
+pub fn end(counts: &mut [u64; COUNTS], numbers: &[u64], line: &[u8]) {
+    let lines = counts[LINES];
+    counts[ENDED] = lines;
+    if numbers.len() == 1 {
+        if numbers[0] == lines {
+            return;
         }
     }
+    malformed(counts, line);
+}
 
-    pub fn next_line(mut self) -> Self {
-        self.lines = plus(self.lines, 1);
-        self.ended = false;
-        self
-    }
-
-    pub fn agree(mut self, kind: Kind) -> Self {
-        let k = kind.place();
-        self.agreed[k] = plus(self.agreed[k], 1);
-        self
-    }
-
-    pub fn differ(mut self, kind: Kind, line: &[u8]) -> Self {
-        let k = kind.place();
-        self.differed[k] = plus(self.differed[k], 1);
-        self.show(line);
-        self
-    }
-
-    pub fn malformed(mut self, line: &[u8]) -> Self {
-        self.malformed = plus(self.malformed, 1);
-        io::write_all(STDOUT_FILENO, b"malformed");
-        self.show(line);
-        self
-    }
-
-    // Ends what is written of a difference with the line's number and the line.
-    fn show(self, line: &[u8]) {
-        io::write_all(STDOUT_FILENO, b" at line ");
-        io::print_decimal(STDOUT_FILENO, self.lines);
-        io::write_all(STDOUT_FILENO, b": ");
-        io::write_all(STDOUT_FILENO, line);
-        io::write_all(STDOUT_FILENO, b"\n");
-    }
-
-    // The line `end COUNT`, which counts the lines and itself.
-    pub fn end(mut self, numbers: &[u64], line: &[u8]) -> Self {
-        self.ended = true;
-        if numbers.len() == 1 {
-            if numbers[0] == self.lines {
-                return self;
+// The input is over, with so many bytes after its last line end.
+pub fn finish(counts: &mut [u64; COUNTS], left: usize) {
+    let lines = counts[LINES];
+    let ended = counts[ENDED];
+    if left == 0 {
+        if ended > 0 {
+            if ended == lines {
+                return;
             }
         }
-        self.malformed(line)
     }
+    add_one(counts, LINES);
+    malformed(
+        counts,
+        b"the input is cut short, or a line is longer than the buffer",
+    );
+}
 
-    // The input is over, with so many bytes after its last line end.
-    pub fn finish(self, left: usize) -> Self {
-        if left > 0 {
-            return self.next_line()
-                .malformed(b"cut short, or longer than the buffer");
-        }
-        if self.ended {
-            return self;
-        }
-        self.malformed(b"cut short: this is not the line that ends the input")
-    }
-
-    fn report_kind(self, k: usize)
-        requires { do ⌜ k < (← ⟦KINDS⟧) ⌝ }
-    {
-        kind::print_word(k);
-        io::write_all(STDOUT_FILENO, b": ");
-        io::print_decimal(STDOUT_FILENO, self.agreed[k]);
-        io::write_all(STDOUT_FILENO, b" agreed, ");
-        io::print_decimal(STDOUT_FILENO, self.differed[k]);
-        io::write_all(STDOUT_FILENO, b" differed\n");
-    }
-
-    // A malformed line counts as a difference, and no case at all is no agreement.
-    fn report_all(self) {
-        let agreed = self.agreed;
-        let differed = self.differed;
-        let compared = plus(sum(agreed), sum(differed));
-        let differences = plus(sum(differed), self.malformed);
-        if compared == 0 {
-            io::write_all(STDOUT_FILENO, b"no case was compared\n");
-        }
-        if differences > 0 {
-            io::print_decimal(STDOUT_FILENO, differences);
-            io::write_all(STDOUT_FILENO, b" differed\n");
-        } else if compared > 0 {
-            io::write_all(STDOUT_FILENO, b"all agreed\n");
+// A kind of which no case was met is passed over.
+fn report_kind(place: usize, agreed: u64, differed: u64)
+    requires { ⌜ place < 9 ⌝ }
+{
+    if agreed == 0 {
+        if differed == 0 {
+            return;
         }
     }
+    let from = ENTRY * place;
+    say(&WORDS[from..from + ENTRY]);
+    say_number(agreed);
+    say(b" agreed, ");
+    say_number(differed);
+    say(b" differed\n");
+}
 
-    pub fn report(self) {
-        for k in 0..KINDS {
-            self.report_kind(k);
-        }
-        self.report_all();
+pub fn report(counts: &[u64; COUNTS]) {
+    for place in 0..ENTRIES {
+        report_kind(place, counts[place], counts[DIFFERED + place]);
     }
 }

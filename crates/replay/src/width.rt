@@ -1,11 +1,11 @@
 // `width N ANSWER`: the width of the amplitude N.
-use crate::answer::ROOM;
-use crate::answer::Run;
+use crate::answer;
+use crate::answer::Verdict;
 
-pub fn run(numbers: &[u64], answer: &mut [u64; ROOM]) -> Run {
+pub fn run(numbers: &[u64]) -> Verdict {
     if numbers.len() == 0 {
-        return Run::Malformed;
+        return Verdict::Malformed;
     }
-    answer[0] = num_bits::compute_num_bits(numbers[0]) as u64;
-    Run::Answered(1, 1)
+    let answer = [num_bits::compute_num_bits(numbers[0]) as u64];
+    answer::compare(&numbers[1..], &answer)
 }

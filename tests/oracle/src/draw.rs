@@ -33,7 +33,30 @@ impl Draw {
         self.word().checked_shr(64 - bits).unwrap_or(0)
     }
 
+    /// A number of up to so many bits; often 0, 1 or the largest.
+    pub fn of_width(&mut self, bits: u8) -> u64 {
+        let largest = u64::MAX.checked_shr(64 - u32::from(bits)).unwrap_or(0);
+        match self.below(8) {
+            0 => 0,
+            1 => largest,
+            2 => largest.min(1),
+            _ => self.word() & largest,
+        }
+    }
+
     pub fn one_of(&mut self, words: &[u64]) -> u64 {
         words[self.below(words.len() as u64) as usize]
     }
+}
+
+/// Some of the cases, from all over the list, so that a small sample has every sort of them: half as many
+/// as are asked for, or all where there are no more than that.
+pub fn spread<T>(cases: Vec<T>, count: u64) -> impl Iterator<Item = T> {
+    let length = cases.len() as u64;
+    let wanted = length.min(count.div_ceil(2));
+    cases
+        .into_iter()
+        .zip(0..)
+        .filter(move |(_, i)| i * wanted / length < (i + 1) * wanted / length)
+        .map(|(case, _)| case)
 }

@@ -1,12 +1,16 @@
 //! Writes cases with the Rust's answers, for the program `replay` to run through the port:
 //!
 //!     oracle SEED KIND COUNT [KIND COUNT ..]
+//!     oracle outside-cases
 //!
-//! The same words give the same lines. tests/README.md has their form.
+//! and prints what the Rust does outside its domain, beside what the port does: `oracle outside`. The same words give the same lines. tests/README.md has their form.
 
+mod column;
 mod draw;
 mod line;
 mod minmax;
+mod outside;
+mod pack;
 mod width;
 
 use std::io::{self, BufWriter, Write};
@@ -15,24 +19,28 @@ use draw::Draw;
 
 fn main() {
     let words: Vec<String> = std::env::args().skip(1).collect();
-    let Some((seed, kinds)) = words.split_first() else {
-        fail("oracle SEED KIND COUNT [KIND COUNT ..]");
-    };
-    let seed = number(seed);
     let mut out = BufWriter::new(io::stdout().lock());
+    match words.split_first() {
+        Some((word, [])) if word == "outside" => outside::print(&mut out),
+        Some((word, [])) if word == "outside-cases" => outside::write_cases(&mut out),
+        Some((seed, kinds)) => write_kinds(number(seed), kinds, &mut out),
+        None => fail("oracle SEED KIND COUNT [KIND COUNT ..] | outside | outside-cases"),
+    }
+    .and_then(|()| out.flush())
+    .expect("the cases cannot be written");
+}
+
+fn write_kinds(seed: u64, kinds: &[String], out: &mut impl Write) -> io::Result<()> {
     let mut lines = 1;
     for pair in kinds.chunks(2) {
         let [kind, count] = pair else {
             fail("each kind has a count");
         };
         let count = number(count);
-        write_kind(kind, count, Draw::new(seed, kind), &mut out)
-            .expect("the cases cannot be written");
+        write_kind(kind, count, Draw::new(seed, kind), out)?;
         lines += count;
     }
     writeln!(out, "end {lines:x}")
-        .and_then(|()| out.flush())
-        .expect("the cases cannot be written");
 }
 
 /// A kind's cases come from a sequence of their own, so that they stay the same beside other kinds.
@@ -41,6 +49,10 @@ fn write_kind(kind: &str, count: u64, draw: Draw, out: &mut impl Write) -> io::R
         "width" => width::write(count, draw, out),
         "minmax" => minmax::write_u64(count, draw, out),
         "minmaxf" => minmax::write_f64(count, draw, out),
+        "pack" => pack::write(count, draw, out),
+        "get" => column::write_get(count, draw, out),
+        "range" => column::write_range(count, draw, out),
+        "search" => column::write_search(count, draw, out),
         _ => fail(&format!("there is no kind {kind}")),
     }
 }

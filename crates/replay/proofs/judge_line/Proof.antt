@@ -4,8 +4,8 @@ use Rattle.replay.specs.Line.{within-count}
 use Rattle.replay.proofs.judge_line.Statement.{statement}
 use Rattle.replay.proofs.judge_line.Tie as tie
 
-next-line-requires : tie.Need-next-line-requires
-next-line-requires c κs = search needs
+add-one-requires : tie.Need-add-one-requires
+add-one-requires c κs = search needs
 
 word-end-requires : tie.Need-word-end-requires
 word-end-requires c κs = search needs
@@ -32,9 +32,7 @@ part-judge-parts-start-2 : tie.Need-part-judge-parts-start-2
 part-judge-parts-start-2 c = search needs
 
 part-judge-parts-end-2 : tie.Need-part-judge-parts-end-2
-part-judge-parts-end-2 c =
-    let m = c .before .before .before in
-    within-count _ _ _ (m .n .given .1) (m .before .before .before .before .numbers-from .ensures)
+part-judge-parts-end-2 c = let m = c .before .before .before in within-count _ _ _ (m .n .given .1) (m .before .before .before .before .numbers-from .ensures)
 
 judge-parts-requires : tie.Need-judge-parts-requires
 judge-parts-requires c κs = search needs
@@ -61,7 +59,7 @@ pub judge-line-spec : {M : Type 1} → statement M
 judge-line-spec =
     tie.close
     (tie.spec
-    next-line-requires
+    add-one-requires
     word-end-requires
     numbers-from-requires
     enum-known-n

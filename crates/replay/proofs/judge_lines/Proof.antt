@@ -7,10 +7,10 @@ use Rattle.replay.proofs.judge_lines.Statement.{statement}
 use Rattle.replay.proofs.judge_lines.Tie as tie
 
 abbrev Inv-loop : tie.InvT-loop
-Inv-loop buffer at end numbers₀ answer₀ from₀ so-far₀ numbers answer from so-far = (from ≤ end) × (length numbers ≡ length numbers₀)
+Inv-loop buffer end numbers₀ counts₀ from₀ numbers counts from = (from ≤ end) × (length numbers ≡ length numbers₀)
 
 abbrev μ-loop : tie.MeasureT-loop
-μ-loop buffer at end numbers₀ answer₀ from₀ so-far₀ numbers answer from so-far = end - from
+μ-loop buffer end numbers₀ counts₀ from₀ numbers counts from = end - from
 
 loop-holds : tie.Need-loop-holds Inv-loop μ-loop
 loop-holds c = search needs
