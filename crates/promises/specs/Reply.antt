@@ -9,6 +9,8 @@ use Rattle.bitpacker.specs.declared.Written.the-variants.{Emitted, Refused as N
 use Rattle.bitpacker.specs.Packer.{Outcome}
 use Rattle.bitunpacker.specs.declared.Got.{Got}
 use Rattle.bitunpacker.specs.declared.Got.the-variants.{Value, Refused as NotGot}
+use Rattle.bitunpacker.specs.declared.Filled.{Filled}
+use Rattle.bitunpacker.specs.declared.Filled.the-variants.{Done as AllFilled, Refused as NotFilled}
 use Rattle.bitunpacker.specs.declared.Found.{Found}
 use Rattle.bitunpacker.specs.declared.Found.the-variants.{Ids, Refused as NotFound}
 use Rattle.bitunpacker.specs.Unpacker.{Search}
@@ -41,6 +43,11 @@ found s = foundReply (s .answer) (s .positions)
 abbrev pub gotReply : Got → Reply
 gotReply (Value v) = values (v ∷ [])
 gotReply (NotGot why) = refusal (numberOf why)
+
+-- The values that a range read filled the output with.
+abbrev pub filledReply : Filled → List ℕ → Reply
+filledReply AllFilled output = values output
+filledReply (NotFilled why) output = refusal (numberOf why)
 
 -- A call that changes a store gives no value.
 abbrev pub doneReply : Done → Reply
