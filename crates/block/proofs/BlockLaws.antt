@@ -1,18 +1,17 @@
 -- A block that values define, for those who only cite it: its size and width, that its differences fit, and that its entry and its bytes give
 -- the values back, whatever stands before and after them.
-use mathlib.Core.Path.{_≡_, refl, sym, ap, ap₂, _∙_, subst}
+use mathlib.Core.Path.{_≡_, refl, sym, ap, _∙_, subst}
 use mathlib.Core.Bool.{true, false}
 use mathlib.Core.List.{List, [], _∷_, _++_}
 use Prim.Native.Nat.{ℕ, zero, suc, _+_, _-_, _*_, _/_, _%_, _^_, _≤_, _<_}
-use native.Mathlib.Nat.{mul-le-mul-right, zero-add, mod-eq-of-lt}
+use native.Mathlib.Nat.{mul-le-mul-right, mod-eq-of-lt}
 use native.Mathlib.Omega.{arith}
-use lib.Dec.{ltb}
 use lib.ListN.{length, getD, drop, length-map}
 use lib.Pow.{high, low}
-use lib.Seq.{drop-at, getD-at, getD-append-add}
+use lib.Seq.{getD-at, getD-append-add}
 use borrow.Author.Tests.{le-ltb}
 use Rattle.bit_rule.specs.Bytes.{bytesFor}
-use Rattle.bit_rule.specs.Stream.{totalBits, Fit, ofWidth, streamBytes}
+use Rattle.bit_rule.specs.Stream.{Fit, ofWidth, streamBytes}
 use Rattle.bit_rule.specs.Width.{legalWidth, widthOf}
 use Rattle.bit_rule.specs.Place.{valueAt}
 use Rattle.bit_rule.proofs.Width.{widthOf-legal, legal-le}
@@ -20,9 +19,9 @@ use Rattle.bit_rule.proofs.Stream.{totalBits-ofWidth, length-streamBytes}
 use Rattle.bit_rule.proofs.Place.{read-column, valueAt-append}
 use Rattle.num_bits.specs.declared.MinMaxU64.{MinMaxU64}
 use Rattle.num_bits.specs.declared.MinMaxU64.the-variants.{Nothing, Of}
-use Rattle.num_bits.specs.MinMax.{minmaxU64, highest}
+use Rattle.num_bits.specs.MinMax.{minmaxU64}
 use Rattle.num_bits.proofs.Bounds.{minmax-bounds}
-use Rattle.block.specs.Block.{orZero, baseOf, blockWidth, differences, bytesOfBlock, blockSize, blockBytes, wordsPerEntry, entryWords, entryOffset, entryWidth, entryBase, damagedEntry, aboveBase, blockValue}
+use Rattle.block.specs.Block.{baseOf, blockWidth, differences, blockSize, blockBytes, wordsPerEntry, entryWords, entryOffset, entryWidth, entryBase, damagedEntry, aboveBase, blockValue}
 use Rattle.block.specs.Calls.{Extent}
 use Rattle.block.proofs.SealingLaws.{extent-of, extent-of-none, width-is, fits-width}
 

@@ -1,33 +1,29 @@
 -- Each call on the store that accepted values define answers what the paper says of the values, and leaves the store that the values define
 -- then: an add that waits by one more place, and a seal by one more block behind the others.
 use mathlib.Core.Path.{_≡_, refl, sym, ap, ap₂, _∙_, subst}
-use mathlib.Core.Logic.{_⊎_, inl, inr, ⊎-elim}
-use mathlib.Core.Bool.{Bool, true, false, _||_, _&&_, cond}
+use mathlib.Core.Logic.{_⊎_, ⊎-elim}
+use mathlib.Core.Bool.{Bool, true, false, _||_, cond}
 use mathlib.Core.List.{List, [], _∷_, _++_, append-nil, append-assoc}
 use Prim.Native.Nat.{ℕ, zero, suc, _+_, _-_, _*_, _/_, _%_, _^_, _≤_, _<_}
 use native.Mathlib.Omega.{arith}
-use lib.Dec.{leb, ltb, eqb, eqb·suc-zero}
-use lib.ListN.{length, getD, take, drop, set, length-append, length-drop, drop-of-length-le}
-use lib.Seq.{take-at, drop-drop, drop-append-add, drop-append-le, take-append-seam, take-all, take-length}
+use lib.Dec.{ltb, eqb, eqb·suc-zero}
+use lib.ListN.{length, take, drop, set, length-append, length-drop, drop-of-length-le}
+use lib.Seq.{take-at, drop-drop, drop-append-add, drop-append-le, take-append-seam, take-all}
 use borrow.Author.Tests.{lt-ltb, le-ltb, eq-eqb, ne-eqb, le-leb, lt-leb, ltb-false}
-use Rattle.bit_rule.specs.Search.{matchingIds, atStart, pastedAt}
+use Rattle.bit_rule.specs.Search.{atStart, pastedAt}
 use Rattle.bit_rule.proofs.Search.{store-id, length-atStart}
 use Rattle.bit_rule.proofs.Width.{le-or-lt}
-use Rattle.bitunpacker.specs.declared.Found.the-variants.{Ids}
-use Rattle.bitunpacker.specs.Unpacker.{Search, search as found}
 use Rattle.block.specs.Block.{blockSize, blockBytes, eightZeros, entryWords, wordsPerEntry}
 use Rattle.block.proofs.BlockLaws.{AreWords}
-use Rattle.blocked_bitpacker.specs.declared.BlockedBitpacker.{BlockedBitpacker}
-use Rattle.blocked_bitpacker.specs.Store.{blockLimit, noneWaiting, storeOf, isClosed, damagedStore, countOf}
+use Rattle.blocked_bitpacker.specs.Store.{blockLimit, noneWaiting, storeOf, damagedStore, countOf}
 use Rattle.refusal.specs.declared.Refusal.the-variants.{NoRoom, EntriesFull}
 use Rattle.refusal.specs.First.{check, firstThatHolds}
 use Rattle.blocked_bitpacker.specs.Calls.{refusedCall, addOf, flushOf, countedOf, getOf, getRangeOf, searchOf, idsOf, entriesFull, noRoomForBlock, sealed, sealOrRefuse, waits, waitingValues}
 use Rattle.blocked_bitpacker.proofs.Changing.{add-waits as add-that-waits, add-seals as add-that-seals, flush-seals as flush-that-seals}
 use Rattle.blocked_bitpacker.proofs.Judged.{neither}
-use Rattle.promises.specs.Reply.{Reply, values, refusal}
-use Rattle.promises.specs.Column.{stretch}
+use Rattle.promises.specs.Reply.{values, refusal, Answer}
 use Rattle.promises.specs.Defined.{Held, held, blocksBy, blockAt, usedBy, bytesBy, entriesBy, waitingBy, lastLengthBy, storeBy, heldBy}
-use Rattle.promises.specs.Histories.{Call, add, flush, count, get, range, search, Answer, Outcome, gives, outcomeOf, changes, taken, closing}
+use Rattle.promises.specs.Histories.{Call, add, flush, count, get, range, search, Outcome, gives, outcomeOf, changes, taken, closing}
 use Rattle.promises.specs.Paper.{noEntry, noSpace, addReply, flushReply, getReply, rangeAnswer, searchAnswer, says, paperAnswer}
 use Rattle.promises.proofs.Cutting.{usedBy-next, bytesBy-next, entriesBy-next, usedBy-append, bytesBy-append, entriesBy-append, length-bytesBy, length-entriesBy}
 use Rattle.promises.proofs.Honest.{Fits, same-bytes, same-entries, not-damaged, flag-is, count-is, value-is, values-are, index-fine, untouched}
@@ -82,28 +78,11 @@ module _ (vs : List ℕ) (closed : Bool) (bytes₀ entries₀ : List ℕ) (fits 
       (λ inside.
       ⊎-elim
       (λ room.
-      let ids = matchingIds lo hi start (stretch start (end - start) vs) in
-      simp (lt-leb end start some, le-ltb (length vs) end inside, le-ltb (length positions) (end - start) room, untouched vs closed bytes₀ entries₀ fits start end, values-are vs closed bytes₀ entries₀ fits start (end - start) (omega arith), take-append-seam ids (drop (length ids) positions)))
+      simp (lt-leb end start some, le-ltb (length vs) end inside, le-ltb (length positions) (end - start) room, untouched vs closed bytes₀ entries₀ fits start end, values-are vs closed bytes₀ entries₀ fits start (end - start) (omega arith)))
       (λ tight. simp (lt-leb end start some, le-ltb (length vs) end inside, lt-ltb (length positions) (end - start) tight))
       (le-or-lt (end - start) (length positions)))
       (λ past. simp (lt-leb end start some, lt-ltb (length vs) end past))
       (le-or-lt end (length vs)))
-      (le-or-lt end start))
-
-  -- a search that is not refused, with the number that it answers
-  pub search-finds : (lo hi start end : ℕ) (positions : List ℕ) → end ≤ length vs → end - start ≤ length positions
-      → let ids = matchingIds lo hi start (stretch start (end - start) vs) in
-      searchOf (h .store) lo hi start end (h .bytes) (h .entries) positions ≡ found (Ids (length ids)) (atStart ids positions)
-  unfolding searchOf idsOf heldBy matchingIds
-  search-finds lo hi start end positions inside room =
-      simp (fine, counted)
-      (⊎-elim
-      (λ none.
-      let no-ids : 0 ≡ end - start = omega arith in
-      let finds-of : ℕ → Search = λ m. let ids = matchingIds lo hi start (stretch start m vs) in found (Ids (length ids)) (atStart ids positions) in
-      simp (le-leb end start none) (ap finds-of no-ids))
-      (λ some.
-      simp (lt-leb end start some, le-ltb (length vs) end inside, le-ltb (length positions) (end - start) room, untouched vs closed bytes₀ entries₀ fits start end, values-are vs closed bytes₀ entries₀ fits start (end - start) (omega arith)))
       (le-or-lt end start))
 
 -- ---- changing

@@ -2,14 +2,13 @@
 -- and its entry stand among those of all blocks.
 use mathlib.Core.Path.{_≡_, refl, sym, ap, ap₂, _∙_, subst}
 use mathlib.Core.Logic.{⊎-elim}
-use mathlib.Core.Bool.{Bool, true, false}
 use mathlib.Core.List.{List, [], _∷_, _++_, append-nil, append-assoc}
-use Prim.Native.Nat.{ℕ, zero, suc, _+_, _-_, _*_, _/_, _%_, _^_, _≤_, _<_}
+use Prim.Native.Nat.{ℕ, zero, suc, _+_, _-_, _*_, _^_, _≤_, _<_}
 use native.Mathlib.Nat.{le-refl}
 use native.Mathlib.Numerals.{add-one}
 use native.Mathlib.Omega.{arith}
 use lib.ListN.{length, getD, take, drop, length-append, length-take, length-drop}
-use lib.Seq.{getD-take, getD-drop, take-append-le, drop-append-le, take-all}
+use lib.Seq.{getD-take, getD-drop, take-append-le, drop-append-le}
 use Rattle.bit_rule.proofs.Width.{le-or-lt}
 use Rattle.block.specs.Block.{blockSize, blockBytes, entryWords, wordsPerEntry}
 use Rattle.block.proofs.BlockLaws.{AreWords, length-blockBytes, blockSize-le}

@@ -1,18 +1,19 @@
 -- The ids of the values in an interval are listed exactly, and ascending: value by value from the first, whose id is below all later ones.
-use mathlib.Core.Path.{_≡_, refl, sym, ap, ap₂, _∙_}
+use mathlib.Core.Path.{_≡_, refl, sym, ap, ap₂, _∙_, subst}
 use mathlib.Core.Logic.{⊎-elim}
 use mathlib.Core.Bool.{Bool, true, false, _||_, _&&_, cond}
 use mathlib.Core.List.{List, [], _∷_}
-use Prim.Native.Nat.{ℕ, zero, suc, _+_, _-_, _≤_, _<_}
+use Prim.Native.Nat.{ℕ, suc, _+_, _-_, _≤_, _<_}
+use native.Mathlib.Nat.{le-antisymm}
 use native.Mathlib.Omega.{arith}
 use lib.Dec.{leb, ltb, eqb}
-use lib.ListN.{length, getD, take, drop, length-drop}
+use lib.ListN.{length, getD, drop, length-drop}
 use lib.Seq.{length-take-le, getD-take, getD-drop}
-use borrow.Author.Tests.{lt-ltb, le-ltb, le-leb, lt-leb, eq-eqb, ne-eqb, leb-true}
+use borrow.Author.Tests.{lt-ltb, le-ltb, le-leb, lt-leb, eq-eqb, ne-eqb, ltb-true}
 use Rattle.bit_rule.specs.Search.{liesBetween, matchingIds}
 use Rattle.bit_rule.proofs.Width.{le-or-lt}
 use Rattle.promises.specs.Column.{stretch}
-use Rattle.promises.specs.Promises.{isOneOf, ascending}
+use Rattle.promises.specs.Promises.{isOneOf, ascending, OnlyOneList}
 
 module _ (lo hi : ℕ) where
   -- whether x is the id of one of the values, counted from `id`, that lie in the interval
@@ -111,3 +112,62 @@ module _ (lo hi : ℕ) where
           let value : getD (stretch start n vs) (x - start) 0 ≡ getD vs x 0 =
           getD-take n (drop start vs) (x - start) 0 (omega arith) ∙ getD-drop start vs (x - start) 0 ∙ ap (λ m. getD vs m 0) (omega arith) in
           simp (le-leb start x up, lt-ltb x end below, lt-ltb x (start + length (stretch start n vs)) (omega (arith, some up)), value)
+
+-- ---- two ascending lists with the same members
+
+both : (a b : Bool) → (a && b) ≡ true → (a ≡ true) × (b ≡ true)
+both true b h = (refl, h)
+both false b h = absurd (let z : _≡_ {A = ℕ} 0 1 = cc in omega arith)
+
+true-is-not-false : true ≡ false → ⊥
+true-is-not-false h = let z : _≡_ {A = ℕ} 0 1 = cc in omega arith
+
+-- nothing up to the first of an ascending list is among the others
+ascending-rest : (x : ℕ) (xs : List ℕ) → ascending (x ∷ xs) ≡ true → ascending xs ≡ true
+unfolding ascending
+ascending-rest x [] up = refl
+ascending-rest x (y ∷ ys) up = both (ltb x y) (ascending (y ∷ ys)) up .1
+
+not-behind : (id x : ℕ) (xs : List ℕ) → ascending (x ∷ xs) ≡ true → id ≤ x → isOneOf id xs ≡ false
+unfolding ascending isOneOf
+not-behind id x [] up under = refl
+not-behind id x (y ∷ ys) up under =
+    let here = both (ltb x y) (ascending (y ∷ ys)) up in
+    let below : x < y = ltb-true x y (here .0) in
+    ap₂ _||_ (ne-eqb id y (λ e. omega arith)) (not-behind id y ys (here .1) (omega arith))
+
+first-is-one : (x : ℕ) (xs : List ℕ) → isOneOf x (x ∷ xs) ≡ true
+unfolding isOneOf
+first-is-one x xs = ap (λ b. b || isOneOf x xs) (eq-eqb x x refl)
+
+-- so the first of one is not below the first of the other
+not-below : (x : ℕ) (xs : List ℕ) (y : ℕ) (ys : List ℕ) → ascending (y ∷ ys) ≡ true → isOneOf x (x ∷ xs) ≡ isOneOf x (y ∷ ys) → x < y → ⊥
+unfolding isOneOf
+not-below x xs y ys up same below =
+    true-is-not-false
+    (sym (first-is-one x xs) ∙ same ∙ ap₂ _||_ (ne-eqb x y (λ e. omega arith)) (not-behind x y ys up (omega arith)))
+
+-- and past it the members are the same
+same-rest : (x : ℕ) (xs ys : List ℕ) → ascending (x ∷ xs) ≡ true → ascending (x ∷ ys) ≡ true → ((id : ℕ) → isOneOf id (x ∷ xs) ≡ isOneOf id (x ∷ ys))
+    → (id : ℕ) → isOneOf id xs ≡ isOneOf id ys
+unfolding isOneOf
+same-rest x xs ys up other-up same id =
+    ⊎-elim (λ under. not-behind id x xs up under ∙ sym (not-behind id x ys other-up under))
+    (λ above.
+    let other = ne-eqb id x (λ e. omega arith) in
+    sym (ap (λ b. b || isOneOf id xs) other) ∙ same id ∙ ap (λ b. b || isOneOf id ys) other)
+    (le-or-lt id x)
+
+pub only-one-list : OnlyOneList
+unfolding isOneOf
+only-one-list [] [] up other-up same = refl
+only-one-list [] (y ∷ ys) up other-up same = absurd (true-is-not-false (sym (same y ∙ first-is-one y ys)))
+only-one-list (x ∷ xs) [] up other-up same = absurd (true-is-not-false (sym (first-is-one x xs) ∙ same x))
+only-one-list (x ∷ xs) (y ∷ ys) up other-up same =
+    let first : x ≡ y =
+    ⊎-elim (λ le. ⊎-elim (λ ge. le-antisymm le ge) (λ below. absurd (not-below x xs y ys other-up (same x) below)) (le-or-lt y x))
+    (λ below. absurd (not-below y ys x xs up (sym (same y)) below)) (le-or-lt x y) in
+    let others-up : ascending (x ∷ ys) ≡ true = subst (λ z. ascending (z ∷ ys) ≡ true) (sym first) other-up in
+    let same-first : (id : ℕ) → isOneOf id (x ∷ xs) ≡ isOneOf id (x ∷ ys) = λ id. same id ∙ ap (λ z. isOneOf id (z ∷ ys)) (sym first) in
+    ap₂ (λ z l. z ∷ l) first
+    (only-one-list xs ys (ascending-rest x xs up) (ascending-rest y ys other-up) (same-rest x xs ys up others-up same-first))

@@ -4,18 +4,15 @@ use mathlib.Core.Path.{_≡_, refl, sym, ap, ap₂, _∙_, subst}
 use mathlib.Core.Logic.{⊎-elim}
 use mathlib.Core.Bool.{Bool, true, false, _||_}
 use mathlib.Core.List.{List, [], _∷_, _++_, append-nil, append-assoc}
-use Prim.Native.Nat.{ℕ, zero, suc, _+_, _*_, _/_, _%_, _^_, _≤_, _<_, zero-le}
+use Prim.Native.Nat.{ℕ, _+_, _%_, _≤_, zero-le}
 use native.Mathlib.Omega.{arith}
 use lib.ListN.{length}
 use borrow.Author.Tests.{lt-ltb, le-ltb}
-use Rattle.bit_rule.specs.Search.{atStart}
 use Rattle.bit_rule.proofs.Width.{le-or-lt}
-use Rattle.block.specs.Block.{eightZeros}
-use Rattle.blocked_bitpacker.specs.Store.{noneWaiting, storeOf, freshStore}
 use Rattle.blocked_bitpacker.specs.Calls.{newOf}
-use Rattle.promises.specs.Reply.{Reply, values, refusal, doneReply}
-use Rattle.promises.specs.Defined.{Held, held, usedBy, bytesBy, entriesBy, waitingBy, storeBy, heldBy}
-use Rattle.promises.specs.Histories.{Call, add, flush, count, get, range, search, Answer, Outcome, outcomeOf, replyOf, leftBy, begun, after, answers, taken, accepted, closing, closedBy, WordsAdded, History}
+use Rattle.promises.specs.Reply.{values, refusal, doneReply}
+use Rattle.promises.specs.Defined.{waitingBy, storeBy, heldBy}
+use Rattle.promises.specs.Histories.{Call, add, flush, count, get, range, search, replyOf, leftBy, begun, after, taken, accepted, closing, closedBy, WordsAdded, History}
 use Rattle.promises.specs.Paper.{paperAnswer}
 use Rattle.promises.proofs.Cutting.{usedBy-none, bytesBy-none, entriesBy-none}
 use Rattle.promises.proofs.Honest.{Fits}

@@ -1,25 +1,25 @@
 -- The store that accepted values define is not damaged in its areas, no entry of it is, its count is theirs, and each index gives its value: in
 -- a block by the block's laws, and among the values that wait by the place in the array.
-use mathlib.Core.Path.{_≡_, refl, sym, ap, ap₂, _∙_, subst}
+use mathlib.Core.Path.{_≡_, refl, sym, ap, ap₂, _∙_}
 use mathlib.Core.Logic.{_⊎_, inl, inr, ⊎-elim}
 use mathlib.Core.Bool.{Bool, true, false, _||_, _&&_, cond}
-use mathlib.Core.List.{List, [], _∷_, _++_, append-assoc}
+use mathlib.Core.List.{List, _++_, append-assoc}
 use Prim.Native.Nat.{ℕ, zero, suc, _+_, _-_, _*_, _/_, _%_, _^_, _≤_, _<_, min}
 use native.Mathlib.Omega.{arith}
 use lib.Dec.{ltb, eqb}
-use lib.ListN.{length, getD, take, drop, replicate, length-append, length-drop, List·getD-append}
+use lib.ListN.{length, getD, drop, length-append, length-drop, List·getD-append}
 use lib.Seq.{ext-getD, drop-at, getD-drop, getD-take, length-take-le}
 use borrow.Author.Tests.{lt-ltb, le-ltb, ne-eqb, eqb-true, eqb-false}
 use Rattle.bit_rule.specs.Search.{atStart}
 use Rattle.bit_rule.proofs.Search.{length-atStart}
 use Rattle.bit_rule.proofs.Width.{le-or-lt}
-use Rattle.block.specs.Block.{blockSize, blockBytes, eightZeros, entryWords, wordsPerEntry, damagedEntry, blockValue}
+use Rattle.block.specs.Block.{blockBytes, eightZeros, entryWords, wordsPerEntry, damagedEntry, blockValue}
 use Rattle.block.proofs.BlockLaws.{AreWords, entry-fine, value-back}
 use Rattle.blocked_bitpacker.specs.declared.BlockedBitpacker.{BlockedBitpacker}
 use Rattle.blocked_bitpacker.specs.Store.{blockLimit, noneWaiting, isClosed, damagedStore, countOf, lengthOfBlock, inBlock, valueOf, valuesOf, damagedBlocks, touchedDamaged}
 use Rattle.blocked_bitpacker.proofs.Values.{length-valuesOf, getD-valuesOf}
 use Rattle.promises.specs.Column.{stretch}
-use Rattle.promises.specs.Defined.{Held, blocksBy, blockAt, usedBy, bytesBy, entriesBy, waitingBy, lastLengthBy, storeBy, heldBy}
+use Rattle.promises.specs.Defined.{blocksBy, blockAt, usedBy, bytesBy, entriesBy, waitingBy, lastLengthBy, storeBy}
 use Rattle.promises.proofs.Cutting.{blockAt-short, length-whole, length-rest, getD-blockAt, blockAt-words, length-bytesBy, length-entriesBy, usedBy-le, used-within, bytes-around, entries-around}
 
 -- Values whose store fits two areas.

@@ -1,30 +1,27 @@
 -- The promises, each from what a history comes to (`lived`): the store that its accepted values define, of which every call's answer is known
 -- (`Answers`). Values accepted earlier are the first of those accepted later.
-use mathlib.Core.Path.{_≡_, refl, sym, ap, ap₂, _∙_, subst}
-use mathlib.Core.Logic.{_⊎_, inl, inr}
+use mathlib.Core.Path.{_≡_, refl, sym, ap, _∙_, subst}
+use mathlib.Core.Logic.{⊎-elim}
 use mathlib.Core.Bool.{Bool, false}
 use mathlib.Core.List.{List, [], _∷_, _++_, append-assoc}
-use Prim.Native.Nat.{ℕ, suc, _+_, _-_, _%_, _≤_, _<_}
+use Prim.Native.Nat.{ℕ, suc, _+_, _-_, _%_, _≤_}
 use native.Mathlib.Nat.{le-trans}
 use native.Mathlib.Omega.{arith}
-use lib.ListN.{length, getD, take, drop, length-append, length-drop, List·getD-append}
+use lib.ListN.{length, take, drop, length-append, length-drop, List·getD-append}
 use lib.Dec.{eqb·suc-zero}
-use lib.Seq.{take-append-le, drop-append-le, take-append-seam}
+use lib.Seq.{take-append-le, drop-append-le}
 use borrow.Author.Tests.{le-leb, lt-leb, le-ltb, ne-eqb}
-use Rattle.bit_rule.specs.Search.{matchingIds, atStart}
+use Rattle.bit_rule.specs.Search.{matchingIds}
 use Rattle.bit_rule.proofs.Width.{le-or-lt}
-use Rattle.bitunpacker.specs.declared.Found.the-variants.{Ids}
-use Rattle.bitunpacker.specs.Unpacker.{search as foundIds}
-use Rattle.blocked_bitpacker.specs.Calls.{searchOf}
-use Rattle.promises.specs.Reply.{values, refusal}
+use Rattle.promises.specs.Reply.{values, answer, findsIds}
 use Rattle.promises.specs.Column.{stretch}
 use Rattle.promises.specs.Defined.{Held, heldBy, storeBy}
-use Rattle.promises.specs.Histories.{Call, add, flush, count, get, range, search, finds, outcomeOf, replyOf, leftBy, begun, after, taken, accepted, closedBy, WordsAdded, History}
+use Rattle.promises.specs.Histories.{Call, add, flush, count, get, range, search, outcomeOf, replyOf, leftBy, begun, after, taken, accepted, closedBy, WordsAdded}
 use Rattle.promises.specs.Paper.{getReply, rangeAnswer, searchAnswer, addReply, paperAnswer}
 use Rattle.promises.specs.Promises.{Counted, Read, WhatWasAddedIsWhatIsRead, Found, NobodyIsMissing, RoomChangesNothing, Balanced, TheBooksBalance, EveryAnswerIsThePapers, AnOpenStoreAccepts}
 use Rattle.promises.proofs.Honest.{Fits, same-bytes, same-entries, not-damaged}
-use Rattle.promises.proofs.Answers.{count-answers, get-answers, range-answers, search-finds}
-use Rattle.promises.proofs.Histories.{next, words-rest, lived, Lived, made-room, begun-is, fresh-fits}
+use Rattle.promises.proofs.Answers.{count-answers, get-answers, range-answers, search-answers}
+use Rattle.promises.proofs.Histories.{next, words-rest, lived, made-room, begun-is, fresh-fits}
 use Rattle.promises.proofs.Finding.{stretch-exactly, listed-ascending}
 use Rattle.promises.proofs.Room.{same-until-room, SameUntilRoom}
 
@@ -73,11 +70,11 @@ read-of vs us closed bytes entries fits =
     }
   where
     by-output : (start : ℕ) (out : List ℕ) → start + length out ≤ length vs
-        → rangeAnswer (vs ++ us) start out ≡ record { reply = values (stretch start (length out) vs); lent = stretch start (length out) vs }
+        → rangeAnswer (vs ++ us) start out ≡ answer (values []) (stretch start (length out) vs)
     by-output start [] inside = refl
     by-output start (x ∷ out) inside =
         simp (eqb·suc-zero (length out), le-ltb (length (vs ++ us)) (start + suc (length out)) (omega (arith, length-append vs us)))
-        (ap (λ l. record { reply = values l; lent = l }) (stretch-append vs us start (suc (length out)) inside))
+        (ap (answer (values [])) (stretch-append vs us start (suc (length out)) inside))
 
 pub what-was-added-is-what-is-read : WhatWasAddedIsWhatIsRead
 what-was-added-is-what-is-read bytes entries earlier later history =
@@ -97,29 +94,24 @@ what-was-added-is-what-is-read bytes entries earlier later history =
 found-of : (vs us : List ℕ) (closed : Bool) (bytes entries : List ℕ) → Fits (vs ++ us) closed bytes entries
     → (lo hi start end : ℕ) (positions : List ℕ) → end ≤ length vs → end - start ≤ length positions
     → Found vs lo hi start end positions (heldBy (vs ++ us) closed bytes entries)
-unfolding outcomeOf
+unfolding searchAnswer matchingIds
 found-of vs us closed bytes entries fits lo hi start end positions inside room =
     let all = vs ++ us in
-    let n = end - start in
-    let ids = matchingIds lo hi start (stretch start n vs) in
-    let h = heldBy all closed bytes entries in
-    let same : stretch start n all ≡ stretch start n vs = same-stretch (le-or-lt start end) in
-    let found : searchOf (h .store) lo hi start end (h .bytes) (h .entries) positions ≡ foundIds (Ids (length ids)) (atStart ids positions) =
-    search-finds all closed bytes entries fits lo hi start end positions (omega (arith, length-append vs us)) room
-    ∙ ap (λ l. let is = matchingIds lo hi start l in foundIds (Ids (length is)) (atStart is positions)) same in
     record {
-      ids = ids;
+      ids = matchingIds lo hi start (stretch start (end - start) vs);
       exactly = stretch-exactly lo hi vs start end inside;
-      in-order = listed-ascending lo hi start (stretch start n vs);
-      answered = ap (λ o. finds h o .answer) found ∙ ap (λ l. record { reply = values l; lent = atStart ids positions }) (take-append-seam ids (drop (length ids) positions));
-      number = ap (λ o. o .answer) found;
+      in-order = listed-ascending lo hi start (stretch start (end - start) vs);
+      answered =
+          ap (λ o. o .answer) (search-answers all closed bytes entries fits lo hi start end positions)
+          ∙ ⊎-elim
+          (λ none.
+          let no-ids : 0 ≡ end - start = omega arith in
+          simp (le-leb end start none) (ap (λ m. findsIds (matchingIds lo hi start (stretch start m vs)) positions) no-ids))
+          (λ some.
+          simp (lt-leb end start some, le-ltb (length all) end (omega (arith, length-append vs us)), le-ltb (length positions) (end - start) room)
+          (ap (λ l. findsIds (matchingIds lo hi start l) positions) (stretch-append vs us start (end - start) (omega arith))))
+          (le-or-lt end start);
     }
-  where
-    same-stretch : ((start ≤ end) ⊎ (end < start)) → stretch start (end - start) (vs ++ us) ≡ stretch start (end - start) vs
-    same-stretch (inl up) = stretch-append vs us start (end - start) (omega arith)
-    same-stretch (inr down) =
-        let none : end - start ≡ 0 = omega arith in
-        ap (λ m. stretch start m (vs ++ us)) none ∙ sym (ap (λ m. stretch start m vs) none)
 
 pub nobody-is-missing : NobodyIsMissing
 nobody-is-missing bytes entries earlier later history lo hi start end positions inside room =

@@ -1,15 +1,14 @@
 -- A refusal changes nothing: each check that refuses gives the store, the areas and what was lent as they came, and a call that no check
 -- refuses does not answer a refusal. By the checks of each call, whatever they test.
-use mathlib.Core.Path.{_≡_, refl, sym, ap, _∙_}
+use mathlib.Core.Path.{_≡_, ap}
 use mathlib.Core.Bool.{Bool, true, false, _&&_, cond}
 use mathlib.Core.List.{List, [], _∷_, _++_}
 use Prim.Native.Nat.{ℕ, _+_, _/_}
 use native.Mathlib.Omega.{arith}
 use lib.Dec.{leb, ltb, eqb}
-use lib.ListN.{length, take}
+use lib.ListN.{length}
 use Rattle.refusal.specs.declared.Refusal.{Refusal}
 use Rattle.refusal.specs.declared.Refusal.the-variants.{NoRoom, EntriesFull, Closed, NoSuchIndex, Damaged}
-use Rattle.refusal.specs.First.{Check, check, firstThatHolds}
 use Rattle.refusal.specs.Number.{numberOf}
 use Rattle.bitunpacker.specs.declared.Got.{Got}
 use Rattle.bitunpacker.specs.declared.Got.the-variants.{Value, Refused as NotGot}
@@ -19,13 +18,13 @@ use Rattle.bitunpacker.specs.Unpacker.{Range, range, Search, search, noRoom}
 use Rattle.block.specs.Block.{damagedEntry}
 use Rattle.blocked_bitpacker.specs.declared.Counted.{Counted}
 use Rattle.blocked_bitpacker.specs.declared.Counted.the-variants.{Count, Refused as NotCounted}
-use Rattle.blocked_bitpacker.specs.Calls.{Changed, changed, answered, refusedCall, addOf, flushOf, countedOf, getOf, getRangeOf, searchOf, idsOf, sealed, waits, waitingValues, entriesFull, noRoomForBlock}
-use Rattle.blocked_bitpacker.specs.Store.{isClosed, damagedStore, countOf, inBlock, lengthOfBlock, touchedDamaged, valueOf, valuesOf}
+use Rattle.blocked_bitpacker.specs.Calls.{Changed, changed, answered, refusedCall, addOf, flushOf, countedOf, getOf, getRangeOf, searchOf, sealed, waits, waitingValues, entriesFull, noRoomForBlock}
+use Rattle.blocked_bitpacker.specs.Store.{isClosed, damagedStore, countOf, inBlock, lengthOfBlock, touchedDamaged}
 use Rattle.blocked_bitpacker.specs.declared.BlockedBitpacker.{BlockedBitpacker}
 use Rattle.blocked_bitpacker.specs.declared.Done.the-variants.{Accepted}
-use Rattle.promises.specs.Reply.{Reply, values, refusal, countedReply, gotReply}
+use Rattle.promises.specs.Reply.{values, refusal, countedReply, gotReply}
 use Rattle.promises.specs.Defined.{Held, held}
-use Rattle.promises.specs.Histories.{Call, add, flush, count, get, range as rangeCall, search as searchCall, lentTo, Outcome, gives, changes, fills, finds, outcomeOf, replyOf}
+use Rattle.promises.specs.Histories.{add, flush, count, get, range as rangeCall, search as searchCall, Outcome, gives, changes, fills, finds, outcomeOf}
 use Rattle.promises.specs.Promises.{ARefusalChangesNothing}
 
 -- Of an outcome: where it refuses, it leaves what was there.
@@ -123,7 +122,7 @@ module _ (h : Held) where
 
     filled : (read : List ℕ) → RangeKeeps (range AllFilled read)
     unfolding RangeKeeps
-    filled read = does-not out h read read h
+    filled read = does-not out h [] read h
 
     range-keeps : (start : ℕ) → RangeKeeps (getRangeOf s start (h .bytes) (h .entries) out)
     unfolding getRangeOf damaged
@@ -143,7 +142,7 @@ module _ (h : Held) where
 
     found : (n : ℕ) (left : List ℕ) → SearchKeeps (search (Ids n) left)
     unfolding SearchKeeps
-    found n left = does-not positions h (take n left) left h
+    found n left = does-not positions h (n ∷ []) left h
 
     search-keeps : (lo hi start end : ℕ) → SearchKeeps (searchOf s lo hi start end (h .bytes) (h .entries) positions)
     unfolding searchOf damaged

@@ -3,7 +3,7 @@
 use mathlib.Core.Path.{_≡_, refl, sym, ap, ap₂, _∙_, subst}
 use mathlib.Core.Bool.{Bool, true, false, _||_, _&&_, cond}
 use mathlib.Core.List.{List, [], _∷_, _++_, append-assoc}
-use Prim.Native.Nat.{ℕ, zero, suc, _+_, _*_, _/_, _%_, _≤_, _<_}
+use Prim.Native.Nat.{ℕ, suc, _+_, _*_, _/_, _%_, _≤_}
 use native.Mathlib.Omega.{arith}
 use lib.Dec.{ltb, eqb}
 use lib.ListN.{length, take, drop}
@@ -15,12 +15,11 @@ use Rattle.blocked_bitpacker.specs.Store.{blockLimit}
 use Rattle.blocked_bitpacker.proofs.Judged.{neither}
 use Rattle.promises.specs.Reply.{Reply, values, refusal}
 use Rattle.promises.specs.Defined.{Held, blocksBy, blockAt, usedBy, bytesBy, entriesBy, waitingBy, storeBy, heldBy}
-use Rattle.promises.specs.Histories.{Call, add, flush, count, get, range, search, Answer, outcomeOf, leftBy, after, answers, taken, closing, WordsAdded}
+use Rattle.promises.specs.Histories.{Call, add, flush, count, get, range, search, outcomeOf, leftBy, after, answers, taken, closing, WordsAdded}
 use Rattle.promises.specs.Paper.{noEntry, noSpace, addReply, flushReply, says, paperAnswer}
 use Rattle.promises.specs.Promises.{forRoom, beforeRoom, SameContents}
 use Rattle.promises.proofs.Cutting.{length-bytesBy, length-entriesBy}
 use Rattle.promises.proofs.Honest.{Fits}
-use Rattle.promises.proofs.Answers.{Next}
 use Rattle.promises.proofs.Histories.{next, words-rest}
 
 -- ---- one call

@@ -2,12 +2,12 @@
 -- call answers and leaves is what its contract cites.
 use Prim.Native.Nat.{ℕ, _^_, _<_}
 use mathlib.Core.Path.{_≡_}
-use mathlib.Core.Bool.{Bool, false, _||_, _&&_}
+use mathlib.Core.Bool.{Bool, false, _||_}
 use mathlib.Core.List.{List, [], _∷_, _++_}
 use lib.Dec.{ltb}
 use Rattle.bitunpacker.specs.Unpacker.{Range, Search}
 use Rattle.blocked_bitpacker.specs.Calls.{Changed, newOf, addOf, flushOf, countedOf, getOf, getRangeOf, searchOf}
-use Rattle.promises.specs.Reply.{Reply, values, refusal, doneReply, countedReply, gotReply, filledReply, foundReply}
+use Rattle.promises.specs.Reply.{Reply, values, refusal, Answer, answer, doneReply, countedReply, gotReply, filledAnswer, foundAnswer}
 use Rattle.promises.specs.Defined.{Held, held}
 
 -- ---- a call
@@ -30,26 +30,22 @@ lentTo (get i) = []
 lentTo (range start out) = out
 lentTo (search lo hi start end positions) = positions
 
--- What is answered, by document 01's numbers and values, with what was lent as the call left it.
-pub record Answer : Type 0 where
-  pub reply : Reply
-  pub lent : List ℕ
-
+-- What a call answers, with what was lent to it, and what it leaves.
 pub record Outcome : Type 0 where
   pub answer : Answer
   pub left : Held
 
 abbrev pub gives : Reply → List ℕ → Held → Outcome
-gives reply lent h = record { answer = record { reply = reply; lent = lent }; left = h }
+gives reply lent h = record { answer = answer reply lent; left = h }
 
 abbrev pub changes : Changed → Outcome
 changes c = gives (doneReply (c .stored .done)) [] (held (c .stored .store) (c .bytes) (c .entries))
 
 abbrev pub fills : Held → Range → Outcome
-fills h r = gives (filledReply (r .answer) (r .output)) (r .output) h
+fills h r = record { answer = filledAnswer r; left = h }
 
 abbrev pub finds : Held → Search → Outcome
-finds h r = gives (foundReply (r .answer) (r .positions)) (r .positions) h
+finds h r = record { answer = foundAnswer r; left = h }
 
 -- The call with the store and the areas.
 unfoldable pub outcomeOf : Call → Held → Outcome

@@ -6,14 +6,14 @@ use mathlib.Core.Bool.{Bool, _||_, _&&_}
 use mathlib.Core.List.{List, [], _∷_, _++_}
 use lib.Dec.{leb, ltb, eqb}
 use lib.ListN.{length, getD}
-use Rattle.bit_rule.specs.Search.{matchingIds, atStart}
+use Rattle.bit_rule.specs.Search.{matchingIds}
 use Rattle.refusal.specs.First.{check, firstThatHolds}
 use Rattle.block.specs.Block.{blockSize, wordsPerEntry}
 use Rattle.blocked_bitpacker.specs.Store.{blockLimit}
-use Rattle.promises.specs.Reply.{Reply, values, refusal}
+use Rattle.promises.specs.Reply.{Reply, values, refusal, Answer, answer, findsIds}
 use Rattle.promises.specs.Column.{stretch}
 use Rattle.promises.specs.Defined.{blockAt, usedBy}
-use Rattle.promises.specs.Histories.{Call, Answer, add, flush, count, get, range, search}
+use Rattle.promises.specs.Histories.{Call, add, flush, count, get, range, search}
 
 -- "EntriesFull: a seal needs a block past the limit, or 2*(blocks+1) > entry words", where there are n blocks
 abbrev pub noEntry : ℕ → ℕ → Bool
@@ -51,31 +51,29 @@ getReply vs i = firstThatHolds (check (leb (length vs) i) (refusal 7) ∷ []) (v
 
 -- What a call gives where it lends nothing besides the areas.
 abbrev pub says : Reply → Answer
-says reply = record { reply = reply; lent = [] }
+says reply = answer reply []
 
 -- A refusal leaves what was lent.
 abbrev pub refuses : ℕ → List ℕ → Answer
-refuses number lent = record { reply = refusal number; lent = lent }
+refuses number lent = answer (refusal number) lent
 
 unfoldable pub rangeAnswer : List ℕ → ℕ → List ℕ → Answer
 rangeAnswer vs start out =
-    let read = stretch start (length out) vs in
     firstThatHolds
-    (check (eqb (length out) 0) (record { reply = values []; lent = out })
+    (check (eqb (length out) 0) (answer (values []) out)
     ∷ check (ltb (length vs) (start + length out)) (refuses 7 out)
     ∷ [])
-    (record { reply = values read; lent = read })
+    (answer (values []) (stretch start (length out) vs))
 
 -- "writes the ids whose value lies in the interval, ascending, at the start of the positions; places past the count stay as they were"
 unfoldable pub searchAnswer : List ℕ → ℕ → ℕ → ℕ → ℕ → List ℕ → Answer
 searchAnswer vs lo hi start end positions =
-    let ids = matchingIds lo hi start (stretch start (end - start) vs) in
     firstThatHolds
-    (check (leb end start) (record { reply = values []; lent = positions })
+    (check (leb end start) (answer (values (0 ∷ [])) positions)
     ∷ check (ltb (length vs) end) (refuses 7 positions)
     ∷ check (ltb (length positions) (end - start)) (refuses 4 positions)
     ∷ [])
-    (record { reply = values ids; lent = atStart ids positions })
+    (findsIds (matchingIds lo hi start (stretch start (end - start) vs)) positions)
 
 unfoldable pub paperAnswer : Call → List ℕ → Bool → ℕ → ℕ → Answer
 paperAnswer (add v) vs closed byteArea entryArea = says (addReply vs closed byteArea entryArea v)

@@ -1,21 +1,19 @@
 -- The promises over whole histories. In each of them `bytes` and `entries` are any two areas, whatever they hold, on which a store can be
 -- made, and `calls`, `earlier` and `later` are any calls on it with any arguments. The proofs have the same names, written small:
 -- `nobody-is-missing` proves `NobodyIsMissing`.
-use Prim.Native.Nat.{ℕ, zero, suc, _+_, _-_, _*_, _%_, _≤_, _<_}
+use Prim.Native.Nat.{ℕ, suc, _+_, _-_, _*_, _%_, _≤_, _<_}
 use mathlib.Core.Path.{_≡_}
 use mathlib.Core.Bool.{Bool, true, false, _||_, _&&_, cond}
 use mathlib.Core.List.{List, [], _∷_, _++_}
 use lib.Dec.{leb, ltb, eqb}
 use lib.ListN.{length, getD, take}
 use Rattle.bit_rule.specs.Search.{liesBetween, atStart}
-use Rattle.bitunpacker.specs.declared.Found.the-variants.{Ids}
 use Rattle.block.specs.Block.{eightZeros, wordsPerEntry}
 use Rattle.blocked_bitpacker.specs.Store.{damagedStore}
-use Rattle.blocked_bitpacker.specs.Calls.{searchOf}
-use Rattle.promises.specs.Reply.{Reply, values, refusal}
+use Rattle.promises.specs.Reply.{Reply, values, refusal, Answer, answer}
 use Rattle.promises.specs.Column.{stretch}
 use Rattle.promises.specs.Defined.{Held, blocksBy, usedBy, bytesBy, entriesBy, storeBy}
-use Rattle.promises.specs.Histories.{Call, add, flush, count, get, range, search, lentTo, Answer, gives, outcomeOf, replyOf, begun, after, answers, accepted, closedBy, History}
+use Rattle.promises.specs.Histories.{Call, add, count, get, range, search, lentTo, gives, outcomeOf, replyOf, begun, after, answers, accepted, closedBy, History}
 use Rattle.promises.specs.Paper.{paperAnswer}
 
 -- ---- 1. What was added is what is read
@@ -29,7 +27,7 @@ pub record Counted (vs : List ℕ) (h : Held) : Type 0 where
 pub record Read (vs : List ℕ) (h : Held) : Type 0 where
   pub one : (i : ℕ) → i < length vs → replyOf (get i) h ≡ values (getD vs i 0 ∷ [])
   pub stretches : (start : ℕ) (out : List ℕ) → start + length out ≤ length vs
-      → outcomeOf (range start out) h .answer ≡ record { reply = values (stretch start (length out) vs); lent = stretch start (length out) vs }
+      → outcomeOf (range start out) h .answer ≡ answer (values []) (stretch start (length out) vs)
 
 -- After any calls the store has exactly the accepted values; and those that were accepted earlier are read as they were, whatever came later.
 abbrev pub WhatWasAddedIsWhatIsRead : Type 0
@@ -57,9 +55,8 @@ pub record Found (vs : List ℕ) (lo hi start end : ℕ) (positions : List ℕ) 
   -- should not be.
   pub exactly : (id : ℕ) → isOneOf id ids ≡ (leb start id && ltb id end && liesBetween lo hi (getD vs id 0))
   pub in-order : ascending ids ≡ true
-  -- These are the ids that are answered, and so many; they stand at the start of the positions, and places past them stay as they were.
-  pub answered : outcomeOf (search lo hi start end positions) h .answer ≡ record { reply = values ids; lent = atStart ids positions }
-  pub number : searchOf (h .store) lo hi start end (h .bytes) (h .entries) positions .answer ≡ Ids (length ids)
+  -- So many are answered, they stand at the start of the positions, and places past them stay as they were.
+  pub answered : outcomeOf (search lo hi start end positions) h .answer ≡ answer (values (length ids ∷ [])) (atStart ids positions)
 
 -- A range of ids that were accepted at some moment, and enough positions: then and at every later moment the search finds exactly those whose
 -- accepted value lies in the interval.
@@ -69,6 +66,11 @@ NobodyIsMissing =
     → (lo hi start end : ℕ) (positions : List ℕ)
     → end ≤ length (accepted earlier (begun bytes entries)) → end - start ≤ length positions
     → Found (accepted earlier (begun bytes entries)) lo hi start end positions (after (earlier ++ later) (begun bytes entries))
+
+-- What an ascending list has as members leaves no choice: so no two lists of ids could both be right.
+abbrev pub OnlyOneList : Type 0
+OnlyOneList =
+    (ids others : List ℕ) → ascending ids ≡ true → ascending others ≡ true → ((id : ℕ) → isOneOf id ids ≡ isOneOf id others) → ids ≡ others
 
 -- ---- 3. Room changes nothing
 
