@@ -46,9 +46,9 @@ fn word_at(list: &[u8], i: usize) -> u64
 fn has_too_wide(list: &[u8], width: u8) -> bool
     ensures { λ r. ⌜ r ≡ anyTooWide width (wordsOf (now (list .entry))) ⌝ }
 {
-    let count = list.len() / 8;
+    let words = list.len() / 8;
     let mut i = 0;
-    while i < count {
+    while i < words {
         if exceeds(word_at(list, i), width as usize) {
             return true;
         }

@@ -12,10 +12,10 @@ use Rattle.host.proofs.has_too_wide.Statement.{statement}
 use Rattle.host.proofs.has_too_wide.Tie as tie
 
 abbrev Inv-loop : tie.InvT-loop
-Inv-loop list width count i₀ i = anyTooWide width (take i (wordsOf list)) ≡ false
+Inv-loop list width words i₀ i = anyTooWide width (take i (wordsOf list)) ≡ false
 
 abbrev μ-loop : tie.MeasureT-loop
-μ-loop list width count i₀ i = length list / 8 - i
+μ-loop list width words i₀ i = length list / 8 - i
 
 -- what the test of a word says of it
 tested : (c : tie.After-exceeds Inv-loop μ-loop)
@@ -26,7 +26,7 @@ tested c =
     let turn = c .before .before in
     let args = turn .before .before .before .args in
     c .exceeds .ensures
-    ∙ ap (leb (2 ^ args .width)) (c .before .word-at .ensures ∙ sym (getD-wordsOf (args .list .now) (turn .before .loop .i) (turn .loop-test .taken)))
+    ∙ ap (leb (2 ^ args .width)) (c .before .word-at .ensures ∙ sym (getD-wordsOf (args .list .now) (turn .before .loop .i) (omega (arith, turn .loop-test .taken))))
 
 loop-holds : tie.Need-loop-holds Inv-loop μ-loop
 unfolding anyTooWide
