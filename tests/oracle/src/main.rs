@@ -3,10 +3,12 @@
 //!     oracle SEED KIND COUNT [KIND COUNT ..]
 //!     oracle outside-cases
 //!
-//! and prints what the Rust does outside its domain, beside what the port does: `oracle outside`. The same words give the same lines. tests/README.md has their form.
+//! and prints what the Rust does outside its domain, beside what the port does: `oracle outside`. The same
+//! words give the same lines. tests/README.md has their form.
 
 mod column;
 mod draw;
+mod filter;
 mod line;
 mod minmax;
 mod outside;
@@ -53,6 +55,7 @@ fn write_kind(kind: &str, count: u64, draw: Draw, out: &mut impl Write) -> io::R
         "get" => column::write_get(count, draw, out),
         "range" => column::write_range(count, draw, out),
         "search" => column::write_search(count, draw, out),
+        "filter" => filter::write(count, draw, out),
         _ => fail(&format!("there is no kind {kind}")),
     }
 }
