@@ -7,9 +7,10 @@ use std::io::{self, Write};
 use crate::draw::{Draw, spread};
 use crate::line;
 
-/// The Rust's own file, which its crate keeps to itself; `build` puts a copy there.
-#[path = "../../../target/oracle/crate/src/filter_vec/scalar.rs"]
-mod scalar;
+/// The Rust's own file, which its crate keeps to itself. `build` says where the crate is.
+mod scalar {
+    include!(concat!(env!("CRATE"), "/src/filter_vec/scalar.rs"));
+}
 
 pub struct Filter {
     pub lowest: u32,
