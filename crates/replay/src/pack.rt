@@ -3,11 +3,11 @@
 // what was emitted. Its answer is how many bytes it emits or, for a refusal, 100 and the refusal's
 // number, after which the packer goes on as it was.
 ghost use Prim.Native.Nat.{_≤_};
+ghost use lib.ListN.{length};
+use crate::answer;
 use crate::answer::Verdict;
 use crate::column;
 use crate::line;
-use crate::say::say;
-use crate::say::say_number;
 use crate::words;
 use crate::words::BYTES;
 use bitpacker::BitPacker;
@@ -50,46 +50,54 @@ struct Taken {
 }
 
 // A refusal carries no packer: the caller still has the one that was handed in.
+fn stay(packer: BitPacker, agrees: bool) -> Taken
+    ensures { λ r. ⌜ r .emitted ≤ 0 ⌝ }
+{
+    Taken {
+        packer,
+        emitted: 0,
+        agrees,
+    }
+}
+
 fn after(packer: BitPacker, port: Written, recorded: u64, room: usize) -> Taken
     ensures { λ r. ⌜ r .emitted ≤ room ⌝ }
 {
     match port {
         Written::Emitted(next, count) => {
-            if count <= room {
-                return Taken {
-                    packer: next,
-                    emitted: count,
-                    agrees: count as u64 == recorded,
-                };
+            if count > room {
+                return stay(packer, false);
             }
             Taken {
-                packer,
-                emitted: 0,
-                agrees: false,
+                packer: next,
+                emitted: count,
+                agrees: count as u64 == recorded,
             }
         }
-        Written::Refused(why) => Taken {
-            packer,
-            emitted: 0,
-            agrees: REFUSED + why.number() as u64 == recorded,
-        },
+        Written::Refused(why) => stay(packer, REFUSED + why.number() as u64 == recorded),
     }
 }
 
-// Takes the steps, and answers at which number it stopped: because the port answers otherwise there, or
-// because the step is to be lent more than is left of the output.
+// `WIDTH VALUE ROOM ANSWER`, with what is left of the output. A step cannot be lent more than that.
+fn take_step(packer: BitPacker, numbers: &[u64], left: &mut [u8]) -> Taken
+    requires { ⌜ 4 ≤ length (now numbers) ⌝ }
+    ensures { λ r. ⌜ r .emitted ≤ length (now (left .exit)) ⌝ }
+{
+    let room = numbers[2] as usize;
+    if room > left.len() {
+        return stay(packer, false);
+    }
+    let port = step(packer, numbers[0], numbers[1], &mut left[0..room]);
+    after(packer, port, numbers[3], room)
+}
+
+// Takes the steps, and answers at which number it stopped because the port answers otherwise there.
 fn take_steps(first: BitPacker, steps: &[u64], output: &mut [u8]) -> usize {
-    let end = output.len();
     let mut packer = first;
     let mut at = 0;
     let mut i = 0;
     while i + 3 < steps.len() {
-        let room = steps[i + 2] as usize;
-        if room > end - at {
-            return i;
-        }
-        let port = step(packer, steps[i], steps[i + 1], &mut output[at..at + room]);
-        let taken = after(packer, port, steps[i + 3], room);
+        let taken = take_step(packer, &steps[i..i + 4], &mut output[at..]);
         if !taken.agrees {
             return i;
         }
@@ -115,9 +123,7 @@ fn compare(first: BitPacker, steps: &[u64], stream: &[u64]) -> Verdict {
             return Verdict::Agreed;
         }
     }
-    say(b"the port answers otherwise from number ");
-    say_number(stop as u64);
-    Verdict::Differed
+    answer::differ_from(stop)
 }
 
 pub fn run(numbers: &[u64]) -> Verdict {

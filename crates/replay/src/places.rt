@@ -1,10 +1,9 @@
 // What a call leaves in the places that it was lent, held to the recorded answer.
 ghost use Prim.Native.Nat.{_≤_};
 ghost use lib.ListN.{length};
+use crate::answer;
 use crate::answer::ROOM;
 use crate::answer::Verdict;
-use crate::say::say;
-use crate::say::say_number;
 
 // What every place holds before the call.
 pub const BEFORE: u32 = 0xa5a5_a5a5;
@@ -40,9 +39,7 @@ pub fn compare(recorded: &[u64], number: u64, filled: usize, places: &[u64]) -> 
             }
         }
     }
-    say(b"the port answers otherwise from place ");
-    say_number(place as u64);
-    Verdict::Differed
+    answer::differ_from(place)
 }
 
 fn wide(place: u32) -> u64 {
