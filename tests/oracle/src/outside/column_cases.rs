@@ -241,6 +241,7 @@ fn few_positions() -> Vec<Case> {
         search(3, &FIVE_SIX_SEVEN, 0, 0..3, 2),
         search(3, &FIVE_SIX_SEVEN, 7, 0..3, 2),
         search(3, &FIVE_SIX_SEVEN, 9, 0..3, 0),
+        search(3, &FIVE_SIX_SEVEN, 1 << 32, 0..3, 2),
         search(3, &[0xff; 30], 0, 1..80, 78),
         search(33, &[0xff; 9], 0, 0..2, 1),
     ]

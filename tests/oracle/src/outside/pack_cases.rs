@@ -87,6 +87,14 @@ fn bad_widths() -> Vec<Case> {
             &[2],
         ),
         case(vec![write(1, 255, Refuses(1)), flush(Emits(0))], &[]),
+        case(
+            vec![
+                write(1, 4, Emits(0)),
+                write(5, 66, Refuses(1)),
+                flush(Emits(1)),
+            ],
+            &[1],
+        ),
     ]
 }
 
