@@ -1,7 +1,7 @@
 // `pack MINI_BUFFER HELD COUNT WIDTH0 VALUE0 ROOM0 ANSWER0 WIDTH1 .. STREAM`: the fields of a packer, then
 // its steps, four numbers each, then the stream's bytes. A step is lent ROOM bytes of the output after
-// what was emitted. Its answer is how many bytes it emits or, for a refusal, 100 and the refusal's
-// number, after which the packer goes on as it was.
+// what was emitted. Its answer is how many bytes it emits or, for a refusal, 100 plus its number,
+// after which the packer goes on as it was.
 ghost use Prim.Native.Nat.{_≤_};
 ghost use lib.ListN.{length};
 use crate::answer;
