@@ -2,3 +2,4 @@
 pub mod Packing
 pub mod SealingLaws
 pub mod Reading
+pub mod BlockLaws

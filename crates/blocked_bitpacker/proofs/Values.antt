@@ -43,7 +43,7 @@ module _ (s : BlockedBitpacker) (bytes entries : List ℕ) where
   length-valuesOf i zero = refl
   length-valuesOf i (suc n) = ap suc (length-valuesOf (i + 1) n)
 
-  getD-valuesOf : (i n j : ℕ) → j < n → getD (valuesOf s bytes entries i n) j 0 ≡ valueOf s bytes entries (i + j)
+  pub getD-valuesOf : (i n j : ℕ) → j < n → getD (valuesOf s bytes entries i n) j 0 ≡ valueOf s bytes entries (i + j)
   unfolding valuesOf
   getD-valuesOf i zero j h = absurd (omega arith)
   getD-valuesOf i (suc n) zero h = ap (valueOf s bytes entries) (omega arith)

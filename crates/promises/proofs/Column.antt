@@ -25,8 +25,14 @@ use Rattle.bitpacker.specs.Run.{packOf}
 use Rattle.bitpacker.proofs.Run.{Narrow, pack-all}
 use Rattle.bitunpacker.specs.declared.Got.the-variants.{Value}
 use Rattle.bitunpacker.specs.declared.Filled.the-variants.{Done}
-use Rattle.bitunpacker.specs.Unpacker.{unpackerOf, maskOf, getOf, range, getRangeOf, idsOf, searchOf}
-use Rattle.promises.specs.Column.{stretch, finds, ReadsAs, PackedAndRead, packedAgain}
+use Rattle.bitunpacker.specs.declared.Found.the-variants.{Ids}
+use Rattle.bitunpacker.specs.Unpacker.{unpackerOf, maskOf, getOf, range, getRangeOf, Search, search, idsOf, searchOf}
+use Rattle.promises.specs.Reply.{writtenAnswer, emits, gotReply, filledAnswer, foundAnswer}
+use Rattle.promises.specs.Column.{stretch, ReadsAs, PackedAndRead, packedAgain}
+
+-- a search that writes these ids
+foundIds : List ℕ → List ℕ → Search
+foundIds ids positions = search (Ids (length ids)) (atStart ids positions)
 
 module _ (w : ℕ) (vs rest : List ℕ) (legal : legalWidth w ≡ true) (fit : Fit (ofWidth w vs)) where
   -- the bytes that are read: the stream, and whatever follows it
@@ -83,32 +89,39 @@ module _ (w : ℕ) (vs rest : List ℕ) (legal : legalWidth w ≡ true) (fit : F
       some-values 0 out (omega arith) ∙ ap (range Done) (take-all (length out) vs (omega arith))
 
   some-ids : (lo hi start end : ℕ) (positions : List ℕ) → end ≤ length vs → end - start ≤ length positions
-      → searchOf (unpackerOf w) lo hi start end bytes positions ≡ finds (matchingIds lo hi start (stretch start (end - start) vs)) positions
-  unfolding searchOf idsOf matchingIds
+      → searchOf (unpackerOf w) lo hi start end bytes positions ≡ foundIds (matchingIds lo hi start (stretch start (end - start) vs)) positions
+  unfolding searchOf idsOf matchingIds foundIds
   some-ids lo hi start end positions few room = ⊎-elim none some (le-or-lt end start)
     where
-      none : end ≤ start → searchOf (unpackerOf w) lo hi start end bytes positions ≡ finds (matchingIds lo hi start (stretch start (end - start) vs)) positions
+      none : end ≤ start → searchOf (unpackerOf w) lo hi start end bytes positions ≡ foundIds (matchingIds lo hi start (stretch start (end - start) vs)) positions
       none empty =
           let no-ids : 0 ≡ end - start = omega arith in
           rw (legal, eq-eqb (maskOf w) (maskOf w) refl, le-leb end start empty)
-          (ap (λ n. finds (matchingIds lo hi start (stretch start n vs)) positions) no-ids)
+          (ap (λ n. foundIds (matchingIds lo hi start (stretch start n vs)) positions) no-ids)
 
-      some : start < end → searchOf (unpackerOf w) lo hi start end bytes positions ≡ finds (matchingIds lo hi start (stretch start (end - start) vs)) positions
+      some : start < end → searchOf (unpackerOf w) lo hi start end bytes positions ≡ foundIds (matchingIds lo hi start (stretch start (end - start) vs)) positions
       some more =
           rw
           (legal, eq-eqb (maskOf w) (maskOf w) refl, lt-leb end start more, le-leb (end * w) (8 * length bytes) (inside end few), le-ltb (length positions) (end - start) room)
-          (ap (λ l. finds (matchingIds lo hi start l) positions) (stretch-read start (end - start) (omega arith)))
+          (ap (λ l. foundIds (matchingIds lo hi start l) positions) (stretch-read start (end - start) (omega arith)))
 
   all-ids : (lo hi : ℕ) (positions : List ℕ) → length vs ≤ length positions
-      → searchOf (unpackerOf w) lo hi 0 (length vs) bytes positions ≡ finds (matchingIds lo hi 0 vs) positions
+      → searchOf (unpackerOf w) lo hi 0 (length vs) bytes positions ≡ foundIds (matchingIds lo hi 0 vs) positions
   all-ids lo hi positions room =
       some-ids lo hi 0 (length vs) positions (omega arith) (omega arith)
-      ∙ ap (λ l. finds (matchingIds lo hi 0 l) positions) (take-all (length vs - 0) vs (omega arith))
+      ∙ ap (λ l. foundIds (matchingIds lo hi 0 l) positions) (take-all (length vs - 0) vs (omega arith))
 
   -- A stream is read as the list that was packed, whatever bytes follow it.
   pub stream-reads : ReadsAs w vs (streamBytes (ofWidth w vs) ++ rest)
-  unfolding bytes
-  stream-reads = record { one = one; some-values = some-values; all-values = all-values; some-ids = some-ids; all-ids = all-ids }
+  unfolding bytes foundIds
+  stream-reads =
+      record {
+        one = λ i h. ap gotReply (one i h);
+        some-values = λ start out few. ap filledAnswer (some-values start out few);
+        all-values = λ out same. ap filledAnswer (all-values out same);
+        some-ids = λ lo hi start end positions few room. ap foundAnswer (some-ids lo hi start end positions few room);
+        all-ids = λ lo hi positions room. ap foundAnswer (all-ids lo hi positions room);
+      }
 
 -- the packer takes every legal width
 narrow : (w : ℕ) (vs : List ℕ) → w ≤ 64 → Narrow (ofWidth w vs)
@@ -125,8 +138,9 @@ packed-and-read w vs output legal fit room =
     pack-all ps output fit (narrow w vs (legal-le w legal)) (omega arith) in
     record {
       packed =
-          whole
-          ∙ ap₂ (λ n k. outcome (Emitted fresh n) (streamBytes ps ++ drop k output)) (ap bytesFor bits) (sym (length-streamBytes ps));
+          ap writtenAnswer
+          (whole
+          ∙ ap₂ (λ n k. outcome (Emitted fresh n) (streamBytes ps ++ drop k output)) (ap bytesFor bits) (sym (length-streamBytes ps)));
       read = subst (ReadsAs w vs) (ap (λ o. o .output) (sym whole)) (stream-reads w vs (drop (bytesFor (totalBits ps)) output) legal fit);
     }
 
@@ -149,13 +163,14 @@ module _ (w : ℕ) (bytes : List ℕ) (legal : legalWidth w ≡ true) where
 
   -- What is read is what was packed: n values' bytes whose spare high bits are 0, read at their width and packed again, are those bytes.
   pub read-and-packed : (out output : List ℕ) → AreBytes bytes → length bytes ≡ bytesFor (length out * w) → number bytes < 2 ^ (length out * w)
-      → length bytes ≤ length output → packedAgain w bytes out output ≡ outcome (Emitted fresh (length bytes)) (atStart bytes output)
+      → length bytes ≤ length output → writtenAnswer (packedAgain w bytes out output) ≡ emits (length bytes) (atStart bytes output)
   read-and-packed out output are-bytes size spare room =
       let n = length out in
       let vs = valuesFrom w 0 n bytes in
       let ps = ofWidth w vs in
       let taken : bytesFor (totalBits ps) ≡ length bytes =
       ap bytesFor (totalBits-ofWidth w vs ∙ ap (λ k. k * w) (length-valuesFrom w 0 n bytes)) ∙ sym size in
-      ap (λ l. packOf (ofWidth w l) output) (filled out size)
+      ap writtenAnswer
+      (ap (λ l. packOf (ofWidth w l) output) (filled out size)
       ∙ pack-all ps output (read-fits w 0 n bytes) (narrow w vs (legal-le w legal)) (omega arith)
-      ∙ ap₂ (λ k l. outcome (Emitted fresh k) (l ++ drop k output)) taken (column-of-read w n bytes are-bytes size spare)
+      ∙ ap₂ (λ k l. outcome (Emitted fresh k) (l ++ drop k output)) taken (column-of-read w n bytes are-bytes size spare))

@@ -2,48 +2,40 @@
 -- of the data." So what is packed is what is read: one value, a stretch of values, and the ids of those in an interval.
 use Prim.Native.Nat.{ℕ, _+_, _-_, _*_, _≤_, _<_}
 use mathlib.Core.Path.{_≡_}
-use mathlib.Core.List.{List}
+use mathlib.Core.List.{List, [], _∷_}
 use lib.ListN.{length, getD, take, drop}
 use Rattle.bit_rule.specs.Bytes.{bytesFor}
 use Rattle.bit_rule.specs.Stream.{ofWidth, streamBytes}
 use Rattle.bit_rule.specs.Search.{matchingIds, atStart}
-use Rattle.bitpacker.specs.declared.Written.the-variants.{Emitted}
-use Rattle.bitpacker.specs.Packer.{Outcome, outcome, fresh}
+use Rattle.bitpacker.specs.Packer.{Outcome}
 use Rattle.bitpacker.specs.Run.{packOf}
-use Rattle.bitunpacker.specs.declared.Got.the-variants.{Value}
-use Rattle.bitunpacker.specs.declared.Filled.the-variants.{Done}
-use Rattle.bitunpacker.specs.declared.Found.the-variants.{Ids}
-use Rattle.bitunpacker.specs.Unpacker.{unpackerOf, getOf, range, getRangeOf, Search, search, searchOf}
+use Rattle.bitunpacker.specs.Unpacker.{unpackerOf, getOf, getRangeOf, searchOf}
+use Rattle.promises.specs.Reply.{values, answer, writtenAnswer, emits, gotReply, filledAnswer, foundAnswer, findsIds}
 
 -- The values of a list from index `start` on, so many of them.
 abbrev pub stretch : ℕ → ℕ → List ℕ → List ℕ
 stretch start n vs = take n (drop start vs)
 
--- A search that writes these ids: "at the start of the positions; places past the count stay as they were".
-abbrev pub finds : List ℕ → List ℕ → Search
-finds ids positions = search (Ids (length ids)) (atStart ids positions)
-
 -- Bytes from which an unpacker of width w reads the list vs.
 pub record ReadsAs (w : ℕ) (vs bytes : List ℕ) : Type 0 where
   -- Each value is read by its index.
-  pub one : (i : ℕ) → i < length vs → getOf (unpackerOf w) i bytes ≡ Value (getD vs i 0)
+  pub one : (i : ℕ) → i < length vs → gotReply (getOf (unpackerOf w) i bytes) ≡ values (getD vs i 0 ∷ [])
   -- "A range read fills the output with values start, start+1, ..": an output that reaches no further than the list.
   pub some-values : (start : ℕ) (out : List ℕ) → start + length out ≤ length vs
-      → getRangeOf (unpackerOf w) start bytes out ≡ range Done (stretch start (length out) vs)
+      → filledAnswer (getRangeOf (unpackerOf w) start bytes out) ≡ answer (values []) (stretch start (length out) vs)
   -- An output of as many places as the list has is filled with the list.
-  pub all-values : (out : List ℕ) → length out ≡ length vs → getRangeOf (unpackerOf w) 0 bytes out ≡ range Done vs
+  pub all-values : (out : List ℕ) → length out ≡ length vs → filledAnswer (getRangeOf (unpackerOf w) 0 bytes out) ≡ answer (values []) vs
   -- A search finds, among the ids from start to before end, exactly those of the list's values in lo..hi, ascending.
   pub some-ids : (lo hi start end : ℕ) (positions : List ℕ) → end ≤ length vs → end - start ≤ length positions
-      → searchOf (unpackerOf w) lo hi start end bytes positions ≡ finds (matchingIds lo hi start (stretch start (end - start) vs)) positions
+      → foundAnswer (searchOf (unpackerOf w) lo hi start end bytes positions) ≡ findsIds (matchingIds lo hi start (stretch start (end - start) vs)) positions
   -- Over the ids of the whole list, those of its values in lo..hi.
   pub all-ids : (lo hi : ℕ) (positions : List ℕ) → length vs ≤ length positions
-      → searchOf (unpackerOf w) lo hi 0 (length vs) bytes positions ≡ finds (matchingIds lo hi 0 vs) positions
+      → foundAnswer (searchOf (unpackerOf w) lo hi 0 (length vs) bytes positions) ≡ findsIds (matchingIds lo hi 0 vs) positions
 
 -- Packing vs at width w into an output and reading what it left.
 pub record PackedAndRead (w : ℕ) (vs output : List ℕ) : Type 0 where
-  -- It is not refused: ceil(n*w/8) bytes are emitted, those of the stream, and later bytes stay.
-  pub packed : packOf (ofWidth w vs) output
-      ≡ outcome (Emitted fresh (bytesFor (length vs * w))) (atStart (streamBytes (ofWidth w vs)) output)
+  -- It is not refused: ceil(n*w/8) bytes are emitted, those of the stream, later bytes stay, and the packer holds nothing then.
+  pub packed : writtenAnswer (packOf (ofWidth w vs) output) ≡ emits (bytesFor (length vs * w)) (atStart (streamBytes (ofWidth w vs)) output)
   -- What the output then holds is read as the list.
   pub read : ReadsAs w vs (packOf (ofWidth w vs) output .output)
 

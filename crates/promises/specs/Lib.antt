@@ -3,3 +3,7 @@ pub mod Column
 pub mod Reply
 pub mod Runs
 pub mod Examples
+pub mod Defined
+pub mod Histories
+pub mod Paper
+pub mod Promises
