@@ -11,7 +11,7 @@ use bitunpacker::BitUnpacker;
 use bitunpacker::Found;
 
 // What every position holds before the search.
-const BEFORE: u32 = 0xa5a5_a5a5;
+pub const BEFORE: u32 = 0xa5a5_a5a5;
 
 fn wide(id: u32) -> u64 {
     id as u64
@@ -33,7 +33,7 @@ fn first_difference(recorded: &[u64], positions: &[u32; ROOM]) -> usize {
 }
 
 // Whether the ids are those recorded, and every other position is as it was; after a refusal every one.
-fn compare(recorded: &[u64], positions: &[u32; ROOM], refusal: u64, found: usize) -> Verdict {
+pub fn compare(recorded: &[u64], positions: &[u32; ROOM], refusal: u64, found: usize) -> Verdict {
     if recorded.len() == 0 {
         return Verdict::Malformed;
     }

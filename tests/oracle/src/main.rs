@@ -7,10 +7,12 @@
 
 mod column;
 mod draw;
+mod history;
 mod line;
 mod minmax;
 mod outside;
 mod pack;
+mod store;
 mod width;
 
 use std::io::{self, BufWriter, Write};
@@ -53,6 +55,7 @@ fn write_kind(kind: &str, count: u64, draw: Draw, out: &mut impl Write) -> io::R
         "get" => column::write_get(count, draw, out),
         "range" => column::write_range(count, draw, out),
         "search" => column::write_search(count, draw, out),
+        "store" => store::write(count, draw, out),
         _ => fail(&format!("there is no kind {kind}")),
     }
 }
