@@ -63,6 +63,52 @@ fn take(
     }
 }
 
+// Where the step ends that numbers start with, or 0 where there is none.
+fn step_end(numbers: &[u64]) -> usize
+    ensures { λ r. ⌜ r ≤ length (now (numbers .entry)) ⌝ }
+{
+    let asked = line::list_end(numbers);
+    if asked < 2 {
+        return 0;
+    }
+    let answered = line::list_end(&numbers[asked..]);
+    if answered == 0 {
+        return 0;
+    }
+    asked + answered
+}
+
+fn take_step(
+    store: BlockedBitpacker,
+    step: &[u64],
+    bytes: &mut [u8],
+    entries: &mut [u64],
+) -> Taken {
+    let asked = line::list_end(step);
+    if asked > 1 {
+        if asked < step.len() {
+            return take(store, &step[1..asked], &step[asked + 1..], bytes, entries);
+        }
+    }
+    Taken {
+        verdict: Verdict::Malformed,
+        store,
+    }
+}
+
+// Whether a step agreed. The tally ends what is said of one that did not.
+fn agreed(verdict: Verdict, step: u64) -> bool {
+    match verdict {
+        Verdict::Agreed => true,
+        Verdict::Differed => {
+            say(b" in step ");
+            say_number(step);
+            false
+        }
+        Verdict::Malformed => false,
+    }
+}
+
 // Takes one step after the other, up to one that the port answers otherwise.
 fn take_steps(steps: &[u64], bytes: &mut [u8], entries: &mut [u64]) -> Verdict {
     let mut store = store::unmade();
@@ -70,36 +116,16 @@ fn take_steps(steps: &[u64], bytes: &mut [u8], entries: &mut [u64]) -> Verdict {
     let mut step: u64 = 0;
     while at < steps.len() {
         let rest = &steps[at..];
-        let asked = line::list_end(rest);
-        if asked < 2 {
+        let end = step_end(rest);
+        if end == 0 {
             return Verdict::Malformed;
         }
-        let answered = line::list_end(&rest[asked..]);
-        if answered == 0 {
-            return Verdict::Malformed;
-        }
-        let end = asked + answered;
-        let taken = take(
-            store,
-            &rest[1..asked],
-            &rest[asked + 1..end],
-            bytes,
-            entries,
-        );
+        let taken = take_step(store, &rest[0..end], bytes, entries);
         let verdict = taken.verdict;
-        match verdict {
-            Verdict::Agreed => {
-                store = taken.store;
-            }
-            Verdict::Differed => {
-                say(b" in step ");
-                say_number(step);
-                return Verdict::Differed;
-            }
-            Verdict::Malformed => {
-                return Verdict::Malformed;
-            }
+        if !agreed(verdict, step) {
+            return verdict;
         }
+        store = taken.store;
         at += end;
         step += 1;
     }
