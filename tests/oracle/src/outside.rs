@@ -289,7 +289,7 @@ fn listed(values: &[u64]) -> String {
     }
 }
 
-pub fn message(why: &(dyn std::any::Any + Send)) -> &str {
+fn message(why: &(dyn std::any::Any + Send)) -> &str {
     let owned = why.downcast_ref::<String>().map(String::as_str);
     owned
         .or_else(|| why.downcast_ref::<&str>().copied())

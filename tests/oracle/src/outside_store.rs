@@ -2,13 +2,13 @@
 //! port: `oracle outside-store-cases` writes them as cases, `oracle outside-store` prints what the Rust
 //! does at each question beside what the port does.
 
+use std::any::Any;
 use std::io::{self, Write};
 use std::panic::{self, AssertUnwindSafe};
 
 use tantivy_bitpacker::BlockedBitpacker;
 
 use crate::history::{self, Answer, BEFORE, Compared, Question, Rooms, Search, Span, Step};
-use crate::outside::message;
 
 /// A history as the port takes it by document 01, and the Rust's store after as many adds and flushes: it
 /// refuses none of them.
@@ -41,7 +41,7 @@ pub fn write_cases(out: &mut impl Write) -> io::Result<()> {
 pub fn print(out: &mut impl Write) -> io::Result<()> {
     writeln!(
         out,
-        "| document 01 | history | question | the Rust | the port |"
+        "| what it shows | asked of | question | the Rust | the port |"
     )?;
     writeln!(out, "|---|---|---|---|---|")?;
     for history in histories() {
@@ -421,6 +421,13 @@ fn answered(step: &Step) -> String {
         Question::Make | Question::Add(_) | Question::Flush => "done".to_string(),
         _ => listed(values),
     }
+}
+
+fn message(why: &(dyn Any + Send)) -> &str {
+    let owned = why.downcast_ref::<String>().map(String::as_str);
+    owned
+        .or_else(|| why.downcast_ref::<&str>().copied())
+        .unwrap_or("without a message")
 }
 
 /// Values in words, with runs of equal and of rising ones cut short.
