@@ -19,9 +19,12 @@ struct Plan {
 
 pub fn write(count: u64, mut draw: Draw, out: &mut impl Write) -> io::Result<()> {
     let mut compared = Compared::default();
-    let mut edges = spread(edges(&mut draw), count);
+    let jump = around(&mut draw, 56);
+    let edges = spread(edges(&mut draw), count);
+    // The width's jump from 56 to 64 stands in every sample.
+    let mut plans = jump.into_iter().chain(edges);
     for _ in 0..count {
-        let plan = edges.next().unwrap_or_else(|| random(&mut draw));
+        let plan = plans.next().unwrap_or_else(|| random(&mut draw));
         let recorder = record(&mut draw, &plan);
         let Rooms { bytes, entries } = recorder.rooms();
         // Half of the areas are no larger than they must be.
@@ -42,20 +45,23 @@ pub fn write(count: u64, mut draw: Draw, out: &mut impl Write) -> io::Result<()>
     Ok(())
 }
 
-/// Every amplitude around a power of two, in blocks that are full, one short of it and one past it; and
-/// every length with values of every sort.
-fn edges(draw: &mut Draw) -> Vec<Plan> {
+/// The amplitudes around a power of two, in blocks that are full, one short of it and one past it.
+fn around(draw: &mut Draw, width: u32) -> Vec<Plan> {
     let mut plans = Vec::new();
-    for width in 0..=64 {
-        for (n, amplitude) in amplitudes_around(width).into_iter().enumerate() {
-            for length in [2, 127, 128, 129] {
-                let mut values = of_amplitude(draw, amplitude, BLOCK_SIZE.min(length));
-                values.extend(of_sort(draw, SORTS - 1, length - values.len()));
-                let closes = n != 1;
-                plans.push(Plan { values, closes });
-            }
+    for (n, amplitude) in amplitudes_around(width).into_iter().enumerate() {
+        for length in [2, 127, 128, 129] {
+            let mut values = of_amplitude(draw, amplitude, BLOCK_SIZE.min(length));
+            values.extend(of_sort(draw, SORTS - 1, length - values.len()));
+            let closes = n != 1;
+            plans.push(Plan { values, closes });
         }
     }
+    plans
+}
+
+/// Around every power of two; and every length with values of every sort.
+fn edges(draw: &mut Draw) -> Vec<Plan> {
+    let mut plans: Vec<Plan> = (0..=64).flat_map(|width| around(draw, width)).collect();
     for length in LENGTHS {
         for sort in 0..SORTS {
             for closes in [false, true] {
