@@ -72,6 +72,10 @@ fn histories() -> Vec<History> {
     ]
 }
 
+fn span(start: u64, count: u64) -> Span {
+    Span { start, count }
+}
+
 /// 117 terms, a flush, and eleven more: document 01's example l.
 fn march_night() -> History {
     let what = "add after a partial flush: the March night";
@@ -85,33 +89,18 @@ fn march_night() -> History {
     history.add(&eleven, 0, 6);
     history.row(what, "add 20, the first of eleven");
     history.so_far = "117 terms 0 to 12, a flush, 20 to 30 added";
-    let span = Span {
-        start: 117,
-        count: 11,
-    };
-    history.get(span, &[7]);
+    let eleven_indexes = span(117, 11);
+    history.get(eleven_indexes, &[7]);
     history.row(what, "get of each index from 117 to 127");
     history.count(&[0, 117]);
     history.row(what, "how many values; in the Rust as `iter` counts");
-    history.range(
-        Span {
-            start: 117,
-            count: 22,
-        },
-        7,
-    );
+    history.range(span(117, 22), 7);
     history.row(what, "22 values from 117; in the Rust by `iter`");
-    history.get(
-        Span {
-            start: 0,
-            count: 117,
-        },
-        &[&[0], &terms[..]].concat(),
-    );
+    history.get(span(0, 117), &[&[0], &terms[..]].concat());
     history.sealed_once(&terms, 59, 4, 0, 117);
     history.flush(0);
     history.so_far = "117 terms 0 to 12, a flush, 20 to 30 added, a flush";
-    history.get(span, &[7]);
+    history.get(eleven_indexes, &[7]);
     history.row(what, "get of each index from 117 to 127");
     history.sealed_once(&terms, 59, 4, 0, 117);
     history
@@ -123,38 +112,20 @@ fn past_the_count() -> History {
     history.make(0);
     history.add(&[5, 6, 7], 3, 0);
     history.so_far = "5, 6, 7 added";
-    history.get(Span { start: 3, count: 1 }, &[7]);
+    history.get(span(3, 1), &[7]);
     history.row(what, "get of 3");
     history.flush(0);
     history.so_far = "5, 6, 7 added, a flush";
-    history.get(Span { start: 2, count: 2 }, &[7, 7]);
-    history.get(Span { start: 3, count: 1 }, &[7]);
+    history.get(span(2, 2), &[7, 7]);
+    history.get(span(3, 1), &[7]);
     history.row(what, "get of 3");
-    history.get(
-        Span {
-            start: 1000,
-            count: 1,
-        },
-        &[7],
-    );
+    history.get(span(1000, 1), &[7]);
     history.row(what, "get of 1000");
-    history.get(
-        Span {
-            start: u64::MAX,
-            count: 1,
-        },
-        &[7],
-    );
+    history.get(span(u64::MAX, 1), &[7]);
     history.row(what, "get of 2^64 - 1");
-    history.range(Span { start: 2, count: 2 }, 7);
+    history.range(span(2, 2), 7);
     history.row(what, "2 values from 2; in the Rust by `iter`");
-    history.range(
-        Span {
-            start: u64::MAX,
-            count: 0,
-        },
-        0,
-    );
+    history.range(span(u64::MAX, 0), 0);
     history.row(what, "0 values from 2^64 - 1; in the Rust by `iter`");
     history.search(0, 4, 4, &[7]);
     history.row(what, "search of ids 0 to before 4, 4 positions");
@@ -196,24 +167,12 @@ fn no_room_to_seal() -> History {
     history.row("no room", "add 1127");
     history.waiting(&values[..127]);
     history.count(&[0, 127]);
-    history.get(
-        Span {
-            start: 0,
-            count: 128,
-        },
-        &[&[7], &values[..127]].concat(),
-    );
+    history.get(span(0, 128), &[&[7], &values[..127]].concat());
     // 127 of them take as many bytes as 128.
     history.flush(4);
     history.so_far = "1000 to 1126 added, 1127 and a flush refused";
     history.waiting(&values[..127]);
-    history.get(
-        Span {
-            start: 126,
-            count: 1,
-        },
-        &[0, 1126],
-    );
+    history.get(span(126, 1), &[0, 1126]);
     history.row("no room", "get of 126");
     history
 }
@@ -262,13 +221,7 @@ fn no_entry_for_a_block() -> History {
         "no entry words",
         "how many values; in the Rust as `iter` counts",
     );
-    history.get(
-        Span {
-            start: 0,
-            count: 256,
-        },
-        &[&[7], &values[..255]].concat(),
-    );
+    history.get(span(0, 256), &[&[7], &values[..255]].concat());
     history.keep(Question::Fields, Answer::Numbers(vec![112, 1, 127, 0]));
     history.keep(Question::Entries, Answer::Entries(vec![7 << 56, 0]));
     history
