@@ -5,10 +5,9 @@ ghost use lib.ListN.{length};
 use crate::answer;
 use crate::answer::ROOM;
 use crate::answer::Verdict;
-use crate::column;
 use crate::column::LARGEST_INDEX;
+use crate::places;
 use crate::say::say;
-use crate::search;
 use crate::words;
 use crate::words::BYTES;
 use bitunpacker::Filled;
@@ -116,7 +115,7 @@ pub fn add(
 pub fn count(store: BlockedBitpacker, recorded: &[u64], bytes: &[u8], entries: &[u64]) -> Verdict {
     match store.count(bytes, entries) {
         Counted::Count(n) => answer::compare(recorded, &[0, n as u64]),
-        Counted::Refused(why) => column::compare_refusal(recorded, why),
+        Counted::Refused(why) => answer::compare(recorded, &[why.number() as u64]),
     }
 }
 
@@ -210,6 +209,27 @@ pub fn read(
     get(store, start, count, recorded, bytes, entries)
 }
 
+// Searches with the positions that are lent, each of which holds the filler of a place.
+fn search_into(
+    store: BlockedBitpacker,
+    question: &[u64],
+    start: u32,
+    end: u32,
+    recorded: &[u64],
+    bytes: &[u8],
+    entries: &[u64],
+    positions: &mut [u32],
+) -> Verdict
+    requires { ⌜ (3 ≤ length (now question)) × (length (now positions) ≤ 8192) ⌝ }
+{
+    let lo = question[1];
+    let hi = question[2];
+    match store.get_ids_for_value_range(lo, hi, start, end, bytes, entries, positions) {
+        Found::Ids(found) => places::compare_u32(recorded, 0, found, positions),
+        Found::Refused(why) => places::compare_u32(recorded, why.number() as u64, 0, positions),
+    }
+}
+
 // `LO HI START END ROOM`: the ids, with so many positions lent.
 pub fn search(
     store: BlockedBitpacker,
@@ -233,20 +253,17 @@ pub fn search(
     if room > ROOM {
         return Verdict::Malformed;
     }
-    let mut positions = [search::BEFORE; ROOM];
-    let port = store.get_ids_for_value_range(
-        question[1],
-        question[2],
+    let mut positions = [places::BEFORE; ROOM];
+    search_into(
+        store,
+        question,
         start as u32,
         end as u32,
+        recorded,
         bytes,
         entries,
         &mut positions[0..room],
-    );
-    match port {
-        Found::Ids(found) => search::compare(recorded, &positions, 0, found),
-        Found::Refused(why) => search::compare(recorded, &positions, why.number() as u64, 0),
-    }
+    )
 }
 
 // The fields that are numbers, answered by `USED BLOCKS WAITING LAST_LENGTH`.

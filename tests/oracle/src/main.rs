@@ -9,6 +9,7 @@
 
 mod column;
 mod draw;
+mod filter;
 mod history;
 mod line;
 mod minmax;
@@ -60,6 +61,7 @@ fn write_kind(kind: &str, count: u64, draw: Draw, out: &mut impl Write) -> io::R
         "get" => column::write_get(count, draw, out),
         "range" => column::write_range(count, draw, out),
         "search" => column::write_search(count, draw, out),
+        "filter" => filter::write(count, draw, out),
         "store" => store::write(count, draw, out),
         _ => fail(&format!("there is no kind {kind}")),
     }
