@@ -3,6 +3,7 @@
 mod answer;
 mod column;
 mod filter;
+mod history;
 mod input;
 mod kind;
 mod line;
@@ -11,6 +12,7 @@ mod pack;
 mod places;
 mod say;
 mod search;
+mod store;
 mod tally;
 mod width;
 mod words;
@@ -28,7 +30,7 @@ use tally::LINES;
 
 // A case whose line is read: its numbers are the question, then the recorded answer.
 fn judge_case(kind: usize, numbers: &[u64], line: &[u8], counts: &mut [u64; COUNTS])
-    requires { ⌜ kind < 8 ⌝ }
+    requires { ⌜ kind < 9 ⌝ }
 {
     match kind::run(kind, numbers) {
         Verdict::Agreed => tally::add_one(counts, kind),
