@@ -12,6 +12,13 @@ pub enum Verdict {
     Malformed,
 }
 
+// Says from where on the port answers otherwise. The tally ends what is said of a difference.
+pub fn differ_from(number: usize) -> Verdict {
+    say(b"the port answers otherwise from number ");
+    say_number(number as u64);
+    Verdict::Differed
+}
+
 // How many numbers the two begin with that are the same.
 fn common(recorded: &[u64], answer: &[u64]) -> usize {
     let mut i = 0;
@@ -27,8 +34,7 @@ fn common(recorded: &[u64], answer: &[u64]) -> usize {
     i
 }
 
-// Whether the recorded answer is the port's, no longer and no shorter. The tally ends what is said of a
-// difference.
+// Whether the recorded answer is the port's, no longer and no shorter.
 pub fn compare(recorded: &[u64], answer: &[u64]) -> Verdict {
     let same = common(recorded, answer);
     if same == recorded.len() {
@@ -36,9 +42,7 @@ pub fn compare(recorded: &[u64], answer: &[u64]) -> Verdict {
             return Verdict::Agreed;
         }
     }
-    say(b"the port answers otherwise from number ");
-    say_number(same as u64);
-    Verdict::Differed
+    differ_from(same)
 }
 
 // The same of an answer that is the first numbers of an array.

@@ -1,9 +1,12 @@
-// What is asked of a bare column: `KIND WIDTH BYTES WORD0 WORD1 ..`, the column, then the question, then
-// the answer: 0 and what was read, or the number of a refusal alone.
+// What is asked of a bare column: `KIND WIDTH UNPACKER BYTES WORD0 WORD1 ..`, then the question, then the
+// answer: 0 and what was read, or the number of a refusal alone. UNPACKER is 0 for the one that `new`
+// makes for the width, or `1 MASK` for one with these fields, which may be forged.
 ghost use Prim.Native.Nat.{_≤_};
 use crate::answer;
 use crate::answer::ROOM;
 use crate::answer::Verdict;
+use crate::places;
+use crate::places::BEFORE;
 use crate::search;
 use crate::words;
 use crate::words::BYTES;
@@ -19,10 +22,21 @@ pub enum Question {
     Search,
 }
 
+// How many numbers a question has: `INDEX`, `START COUNT` and `START END LO HI ROOM`.
+fn length_of(question: Question) -> usize
+    ensures { λ r. ⌜ 1 ≤ r ⌝ }
+{
+    match question {
+        Question::Get => 1,
+        Question::Range => 2,
+        Question::Search => 5,
+    }
+}
+
 // Indexes of a column are u32: a line with a larger one asks nothing.
 pub const LARGEST_INDEX: u64 = 0xffff_ffff;
 
-pub fn compare_refusal(recorded: &[u64], why: Refusal) -> Verdict {
+fn compare_refusal(recorded: &[u64], why: Refusal) -> Verdict {
     let answer = [why.number() as u64];
     answer::compare(recorded, &answer)
 }
@@ -40,21 +54,31 @@ fn get(unpacker: BitUnpacker, data: &[u8], index: u32, recorded: &[u64]) -> Verd
     }
 }
 
+// Reads into the output that is lent, each place of which holds BEFORE.
+fn range_into(
+    unpacker: BitUnpacker,
+    data: &[u8],
+    start: u32,
+    output: &mut [u64],
+    recorded: &[u64],
+) -> Verdict {
+    match unpacker.get_range(start, data, output) {
+        Filled::Done => places::compare(recorded, 0, output.len(), output),
+        Filled::Refused(why) => places::compare(recorded, why.number() as u64, 0, output),
+    }
+}
+
 // `START COUNT`, answered by the values.
 fn range(unpacker: BitUnpacker, data: &[u8], start: u32, rest: &[u64]) -> Verdict {
     if rest.len() == 0 {
         return Verdict::Malformed;
     }
     let count = rest[0] as usize;
-    if count >= ROOM {
+    if count > ROOM {
         return Verdict::Malformed;
     }
-    let recorded = &rest[1..];
-    let mut answer = [0; ROOM];
-    match unpacker.get_range(start, data, &mut answer[1..count + 1]) {
-        Filled::Done => answer::compare_first(recorded, &answer, count + 1),
-        Filled::Refused(why) => compare_refusal(recorded, why),
-    }
+    let mut output = [BEFORE as u64; ROOM];
+    range_into(unpacker, data, start, &mut output[0..count], &rest[1..])
 }
 
 // What is asked of an unpacker: a first index, and what is left of the line.
@@ -72,11 +96,12 @@ fn ask(
     }
 }
 
-// The column is the first bytes of an array.
-fn open(question: Question, width: u64, bytes: &[u8; BYTES], count: usize, rest: &[u64]) -> Verdict
+// The column is the first bytes of an array. Where no unpacker was made, the question is not asked.
+fn open(question: Question, made: Made, bytes: &[u8; BYTES], count: usize, rest: &[u64]) -> Verdict
     requires { ⌜ count ≤ 32768 ⌝ }
 {
-    if rest.len() == 0 {
+    let asked = length_of(question);
+    if rest.len() < asked {
         return Verdict::Malformed;
     }
     let start = rest[0];
@@ -84,7 +109,7 @@ fn open(question: Question, width: u64, bytes: &[u8; BYTES], count: usize, rest:
         return Verdict::Malformed;
     }
     let whole = &bytes[..];
-    match BitUnpacker::new(narrow(width)) {
+    match made {
         Made::Unpacker(unpacker) => ask(
             question,
             unpacker,
@@ -92,25 +117,36 @@ fn open(question: Question, width: u64, bytes: &[u8; BYTES], count: usize, rest:
             start as u32,
             &rest[1..],
         ),
-        Made::Refused(why) => compare_refusal(&rest[1..], why),
+        Made::Refused(why) => compare_refusal(&rest[asked..], why),
     }
 }
 
 // The column's bytes are unpacked, and the question is asked of them.
-fn unpack(question: Question, width: u64, packed: &[u64], rest: &[u64]) -> Verdict {
-    let mut data = [0; BYTES];
-    let count = words::unpack(packed, &mut data);
-    open(question, width, &data, count, rest)
-}
-
-pub fn run(question: Question, numbers: &[u64]) -> Verdict {
-    if numbers.len() == 0 {
-        return Verdict::Malformed;
-    }
-    let column = &numbers[1..];
+fn unpack(question: Question, made: Made, column: &[u64]) -> Verdict {
     let end = words::bytes_end(column);
     if end == 0 {
         return Verdict::Malformed;
     }
-    unpack(question, numbers[0], &column[0..end], &column[end..])
+    let mut data = [0; BYTES];
+    let count = words::unpack(&column[0..end], &mut data);
+    open(question, made, &data, count, &column[end..])
+}
+
+fn of_fields(width: u64, mask: u64) -> Made {
+    Made::Unpacker(BitUnpacker {
+        num_bits: width as usize,
+        mask,
+    })
+}
+
+pub fn run(question: Question, numbers: &[u64]) -> Verdict {
+    if numbers.len() < 3 {
+        return Verdict::Malformed;
+    }
+    let width = numbers[0];
+    match numbers[1] {
+        0 => unpack(question, BitUnpacker::new(narrow(width)), &numbers[2..]),
+        1 => unpack(question, of_fields(width, numbers[2]), &numbers[3..]),
+        _ => Verdict::Malformed,
+    }
 }

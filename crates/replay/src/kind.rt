@@ -4,12 +4,14 @@ ghost use Prim.Native.Nat.{_<_};
 use crate::answer::Verdict;
 use crate::column;
 use crate::column::Question;
+use crate::filter;
+use crate::history;
 use crate::line;
 use crate::minmax;
 use crate::pack;
 use crate::width;
 
-pub const KINDS: usize = 7;
+pub const KINDS: usize = 9;
 
 // Two entries stand behind the kinds in the table. The input's last line counts its lines, so that an
 // input that was cut short is known.
@@ -24,7 +26,7 @@ pub const ENTRIES: usize = KINDS + 2;
 pub const ENTRY: usize = 8;
 
 pub const WORDS: [u8; ENTRY * ENTRIES] =
-    *b"width   minmax  minmaxf pack    get     range   search  end     line    ";
+    *b"width   minmax  minmaxf pack    get     range   search  filter  store   end     line    ";
 
 // The place of a word in the table.
 pub fn of(word: &[u8]) -> usize {
@@ -37,7 +39,7 @@ pub fn of(word: &[u8]) -> usize {
 }
 
 fn is_word(place: usize, word: &[u8]) -> bool
-    requires { ⌜ place < 8 ⌝ }
+    requires { ⌜ place < 10 ⌝ }
 {
     let from = ENTRY * place;
     let entry = &WORDS[from..from + ENTRY];
@@ -54,6 +56,8 @@ pub fn run(place: usize, numbers: &[u64]) -> Verdict {
         3 => pack::run(numbers),
         4 => column::run(Question::Get, numbers),
         5 => column::run(Question::Range, numbers),
-        _ => column::run(Question::Search, numbers),
+        6 => column::run(Question::Search, numbers),
+        7 => filter::run(numbers),
+        _ => history::run(numbers),
     }
 }

@@ -2,13 +2,17 @@
 // that the first argument names, or else from standard input; tests/README.md has their form.
 mod answer;
 mod column;
+mod filter;
+mod history;
 mod input;
 mod kind;
 mod line;
 mod minmax;
 mod pack;
+mod places;
 mod say;
 mod search;
+mod store;
 mod tally;
 mod width;
 mod words;
@@ -26,7 +30,7 @@ use tally::LINES;
 
 // A case whose line is read: its numbers are the question, then the recorded answer.
 fn judge_case(kind: usize, numbers: &[u64], line: &[u8], counts: &mut [u64; COUNTS])
-    requires { ⌜ kind < 7 ⌝ }
+    requires { ⌜ kind < 9 ⌝ }
 {
     match kind::run(kind, numbers) {
         Verdict::Agreed => tally::add_one(counts, kind),

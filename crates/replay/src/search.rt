@@ -5,76 +5,27 @@ ghost use lib.ListN.{length};
 use crate::answer::ROOM;
 use crate::answer::Verdict;
 use crate::column::LARGEST_INDEX;
-use crate::say::say;
-use crate::say::say_number;
+use crate::places;
+use crate::places::BEFORE;
 use bitunpacker::BitUnpacker;
 use bitunpacker::Found;
 
-// What every position holds before the search.
-const BEFORE: u32 = 0xa5a5_a5a5;
-
-fn wide(id: u32) -> u64 {
-    id as u64
-}
-
-// The first place whose position is not as recorded, or as before where nothing is recorded of it.
-fn first_difference(recorded: &[u64], positions: &[u32; ROOM]) -> usize {
-    for i in 0..ROOM {
-        let position = wide(positions[i]);
-        if i < recorded.len() {
-            if position != recorded[i] {
-                return i;
-            }
-        } else if position != BEFORE as u64 {
-            return i;
-        }
-    }
-    ROOM
-}
-
-// Whether the ids are those recorded, and every other position is as it was; after a refusal every one.
-fn compare(recorded: &[u64], positions: &[u32; ROOM], refusal: u64, found: usize) -> Verdict {
-    if recorded.len() == 0 {
-        return Verdict::Malformed;
-    }
-    let ids = &recorded[1..];
-    let place = first_difference(ids, positions);
-    if recorded[0] == refusal {
-        if ids.len() == found {
-            if place == ROOM {
-                return Verdict::Agreed;
-            }
-        }
-    }
-    say(b"the port answers otherwise from position ");
-    say_number(place as u64);
-    Verdict::Differed
-}
-
-// Searches with so many positions lent.
-fn search_with_room(
+// Searches with the positions that are lent, each of which holds BEFORE.
+fn search_into(
     unpacker: BitUnpacker,
     data: &[u8],
     start: u32,
     end: u32,
-    room: usize,
     rest: &[u64],
+    positions: &mut [u32],
 ) -> Verdict
-    requires { ⌜ (4 ≤ length (now rest)) × (room ≤ 8192) ⌝ }
+    requires { ⌜ (4 ≤ length (now rest)) × (length (now positions) ≤ 8192) ⌝ }
 {
-    let mut positions = [BEFORE; ROOM];
-    let port = unpacker.get_ids_for_value_range(
-        rest[1],
-        rest[2],
-        start,
-        end,
-        data,
-        &mut positions[0..room],
-    );
+    let port = unpacker.get_ids_for_value_range(rest[1], rest[2], start, end, data, positions);
     let recorded = &rest[4..];
     match port {
-        Found::Ids(found) => compare(recorded, &positions, 0, found),
-        Found::Refused(why) => compare(recorded, &positions, why.number() as u64, 0),
+        Found::Ids(found) => places::compare_u32(recorded, 0, found, positions),
+        Found::Refused(why) => { places::compare_u32(recorded, why.number() as u64, 0, positions) }
     }
 }
 
@@ -91,5 +42,13 @@ pub fn search(unpacker: BitUnpacker, data: &[u8], start: u32, rest: &[u64]) -> V
     if room > ROOM {
         return Verdict::Malformed;
     }
-    search_with_room(unpacker, data, start, end as u32, room, rest)
+    let mut positions = [BEFORE; ROOM];
+    search_into(
+        unpacker,
+        data,
+        start,
+        end as u32,
+        rest,
+        &mut positions[0..room],
+    )
 }

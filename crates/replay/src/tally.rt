@@ -18,9 +18,9 @@ const ENDED: usize = LINES + 1;
 
 pub const COUNTS: usize = LINES + 2;
 
-// One more, unless that would wrap. (There are 20 places.)
+// One more, unless that would wrap. (There are 24 places.)
 pub fn add_one(counts: &mut [u64; COUNTS], place: usize)
-    requires { ⌜ place < 20 ⌝ }
+    requires { ⌜ place < 24 ⌝ }
 {
     let count = counts[place];
     if count < u64::MAX {
@@ -31,7 +31,7 @@ pub fn add_one(counts: &mut [u64; COUNTS], place: usize)
 // Counts a difference of the kind at a place, and ends what is said of it with the line's number and the
 // line.
 pub fn differ(counts: &mut [u64; COUNTS], place: usize, line: &[u8])
-    requires { ⌜ place < 9 ⌝ }
+    requires { ⌜ place < 11 ⌝ }
 {
     add_one(counts, DIFFERED + place);
     say(b" at line ");
@@ -79,7 +79,7 @@ pub fn finish(counts: &mut [u64; COUNTS], left: usize) {
 
 // A kind of which no case was met is passed over.
 fn report_kind(place: usize, agreed: u64, differed: u64)
-    requires { ⌜ place < 9 ⌝ }
+    requires { ⌜ place < 11 ⌝ }
 {
     if agreed == 0 {
         if differed == 0 {

@@ -1,6 +1,6 @@
 //! Columns of one width, drawn and packed by the Rust's own packer, and what is asked of them:
-//! `get`, `range` and `search`. A line has the width, the column's bytes, the question, then the answer,
-//! whose first number is 0 because the Rust refuses nothing.
+//! `get`, `range` and `search`. A line has the width, 0 for an unpacker that `new` makes, the column's
+//! bytes, the question, then the answer, whose first number is 0 because the Rust refuses nothing.
 
 use std::io::{self, Write};
 
@@ -10,7 +10,7 @@ use crate::draw::{Draw, spread};
 use crate::line;
 
 /// Every width that an unpacker takes.
-pub fn legal_widths() -> impl Iterator<Item = u8> {
+fn legal_widths() -> impl Iterator<Item = u8> {
     (0..=56).chain([64])
 }
 
@@ -25,9 +25,12 @@ const RANGE_COUNTS: [u64; 14] = [0, 1, 3, 4, 5, 7, 8, 9, 31, 32, 33, 63, 64, 65]
 const MOST_IDS: u64 = 4_000;
 const MOST_BYTES: usize = 32_768;
 
-pub struct Column {
-    pub width: u8,
-    pub data: Vec<u8>,
+/// In the place of the unpacker: the one that `new` makes.
+pub const MADE: u64 = 0;
+
+struct Column {
+    width: u8,
+    data: Vec<u8>,
 }
 
 impl Column {
@@ -44,14 +47,14 @@ impl Column {
         BitUnpacker::new(self.width)
     }
 
-    pub fn write(
+    fn write(
         &self,
         out: &mut impl Write,
         kind: &str,
         question: &[u64],
         answer: &[u64],
     ) -> io::Result<()> {
-        let numbers: Vec<u64> = [u64::from(self.width)]
+        let numbers: Vec<u64> = [u64::from(self.width), MADE]
             .into_iter()
             .chain(line::bytes(&self.data))
             .chain(question.iter().copied())

@@ -2,15 +2,21 @@
 //!
 //!     oracle SEED KIND COUNT [KIND COUNT ..]
 //!     oracle outside-cases
+//!     oracle outside-store-cases
 //!
-//! and prints what the Rust does outside its domain, beside what the port does: `oracle outside`. The same words give the same lines. tests/README.md has their form.
+//! and prints what the Rust does outside its domain, beside what the port does: `oracle outside` and
+//! `oracle outside-store`. The same words give the same lines. tests/README.md has their form.
 
 mod column;
 mod draw;
+mod filter;
+mod history;
 mod line;
 mod minmax;
 mod outside;
+mod outside_store;
 mod pack;
+mod store;
 mod width;
 
 use std::io::{self, BufWriter, Write};
@@ -23,6 +29,8 @@ fn main() {
     match words.split_first() {
         Some((word, [])) if word == "outside" => outside::print(&mut out),
         Some((word, [])) if word == "outside-cases" => outside::write_cases(&mut out),
+        Some((word, [])) if word == "outside-store" => outside_store::print(&mut out),
+        Some((word, [])) if word == "outside-store-cases" => outside_store::write_cases(&mut out),
         Some((seed, kinds)) => write_kinds(number(seed), kinds, &mut out),
         None => fail("oracle SEED KIND COUNT [KIND COUNT ..] | outside | outside-cases"),
     }
@@ -53,6 +61,8 @@ fn write_kind(kind: &str, count: u64, draw: Draw, out: &mut impl Write) -> io::R
         "get" => column::write_get(count, draw, out),
         "range" => column::write_range(count, draw, out),
         "search" => column::write_search(count, draw, out),
+        "filter" => filter::write(count, draw, out),
+        "store" => store::write(count, draw, out),
         _ => fail(&format!("there is no kind {kind}")),
     }
 }

@@ -1,5 +1,6 @@
-//! `pack COUNT WIDTH0 VALUE0 EMITTED0 WIDTH1 VALUE1 EMITTED1 .. STREAM`: values of mixed widths with flushes
-//! anywhere among them, where the width is 100; each step with how many bytes it emitted, then the bytes.
+//! `pack 0 0 COUNT WIDTH0 VALUE0 ROOM0 EMITTED0 WIDTH1 VALUE1 .. STREAM`: a new packer's fields, values of
+//! mixed widths with flushes anywhere among them, where the width is 100, each step with how many bytes
+//! the port is lent for it and how many it emitted, then the bytes.
 
 use std::io::{self, Write};
 
@@ -8,8 +9,11 @@ use tantivy_bitpacker::BitPacker;
 use crate::draw::{Draw, spread};
 use crate::line;
 
+/// The fields of a new packer.
+pub const NEW: [u64; 2] = [0, 0];
+
 /// In the place of a width: a flush.
-const FLUSH: u64 = 0x100;
+pub const FLUSH: u64 = 0x100;
 
 struct Step {
     width: u64,
@@ -25,15 +29,17 @@ pub fn write(count: u64, mut draw: Draw, out: &mut impl Write) -> io::Result<()>
     let mut edges = spread(edges(&mut draw), count);
     for _ in 0..count {
         let steps = edges.next().unwrap_or_else(|| random(&mut draw));
-        write_case(&steps, out)?;
+        write_case(&steps, &mut draw, out)?;
     }
     Ok(())
 }
 
-fn write_case(steps: &[Step], out: &mut impl Write) -> io::Result<()> {
+/// Half of the steps are lent exactly as many bytes as they emit.
+fn write_case(steps: &[Step], draw: &mut Draw, out: &mut impl Write) -> io::Result<()> {
     let mut packer = BitPacker::new();
     let mut stream = Vec::new();
-    let mut numbers = vec![3 * steps.len() as u64];
+    let mut numbers = NEW.to_vec();
+    numbers.push(4 * steps.len() as u64);
     for step in steps {
         let before = stream.len();
         if step.width == FLUSH {
@@ -42,7 +48,8 @@ fn write_case(steps: &[Step], out: &mut impl Write) -> io::Result<()> {
             packer.write(step.value, step.width as u8, &mut stream)?;
         }
         let emitted = (stream.len() - before) as u64;
-        numbers.extend([step.width, step.value, emitted]);
+        let room = emitted + draw.below(2) * draw.below(20);
+        numbers.extend([step.width, step.value, room, emitted]);
     }
     let stream: Vec<u64> = line::bytes(&stream).collect();
     line::write(out, "pack", &numbers, &stream)

@@ -5,10 +5,10 @@ use Rattle.replay.proofs.kind.of.Statement.{statement}
 use Rattle.replay.proofs.kind.of.Tie as tie
 
 abbrev Inv-loop : tie.InvT-loop
-Inv-loop word place₀ place = place ≤ 8
+Inv-loop word place₀ place = place ≤ 10
 
 abbrev μ-loop : tie.MeasureT-loop
-μ-loop word place₀ place = 8 - place
+μ-loop word place₀ place = 10 - place
 
 loop-holds : tie.Need-loop-holds Inv-loop μ-loop
 loop-holds c = search needs

@@ -7,13 +7,10 @@ use Rattle.replay.proofs.pack.take_steps.Statement.{statement}
 use Rattle.replay.proofs.pack.take_steps.Tie as tie
 
 abbrev Inv-loop : tie.InvT-loop
-Inv-loop steps output₀ end packer₀ at₀ i₀ output packer at i = (i ≤ length steps) × (at ≤ end) × (end ≡ length output) × (length output ≡ length output₀)
+Inv-loop steps output₀ packer₀ at₀ i₀ output packer at i = (i ≤ length steps) × (at ≤ length output) × (length output ≡ length output₀)
 
 abbrev μ-loop : tie.MeasureT-loop
-μ-loop steps output₀ end packer₀ at₀ i₀ output packer at i = length steps - i
-
-new-requires : tie.Need-new-requires Inv-loop μ-loop
-new-requires c κs = search needs
+μ-loop steps output₀ packer₀ at₀ i₀ output packer at i = length steps - i
 
 loop-holds : tie.Need-loop-holds Inv-loop μ-loop
 loop-holds c = search needs
@@ -21,50 +18,41 @@ loop-holds c = search needs
 add-loop : tie.Need-add-loop Inv-loop μ-loop
 add-loop c = search needs
 
-mul-step : tie.Need-mul-step Inv-loop μ-loop
-mul-step c = search needs
+add-take-step : tie.Need-add-take-step Inv-loop μ-loop
+add-take-step c = search needs
 
-shared-slice-read-step : tie.Need-shared-slice-read-step Inv-loop μ-loop
-shared-slice-read-step c = search needs
+mul-take-step : tie.Need-mul-take-step Inv-loop μ-loop
+mul-take-step c = search needs
 
-add-step : tie.Need-add-step Inv-loop μ-loop
-add-step c = search needs
+sub-take-step : tie.Need-sub-take-step Inv-loop μ-loop
+sub-take-step c = search needs
 
-mul-step-2 : tie.Need-mul-step-2 Inv-loop μ-loop
-mul-step-2 c = search needs
+part-take-step-start : tie.Need-part-take-step-start Inv-loop μ-loop
+part-take-step-start c = search needs
 
-shared-slice-read-step-2 : tie.Need-shared-slice-read-step-2 Inv-loop μ-loop
-shared-slice-read-step-2 c = search needs
+part-take-step-end : tie.Need-part-take-step-end Inv-loop μ-loop
+part-take-step-end c = search needs
 
-sub-step : tie.Need-sub-step Inv-loop μ-loop
-sub-step c = search needs
+sub-take-step-2 : tie.Need-sub-take-step-2 Inv-loop μ-loop
+sub-take-step-2 c = search needs
 
-part-step-start : tie.Need-part-step-start Inv-loop μ-loop
-part-step-start c = search needs
+part-take-step-start-2 : tie.Need-part-take-step-start-2 Inv-loop μ-loop
+part-take-step-start-2 c = search needs
 
-part-step-end : tie.Need-part-step-end Inv-loop μ-loop
-part-step-end c = search needs
+part-take-step-end-2 : tie.Need-part-take-step-end-2 Inv-loop μ-loop
+part-take-step-end-2 c = search needs
 
-step-requires : tie.Need-step-requires Inv-loop μ-loop
-step-requires c κs = search needs
-
-add-after : tie.Need-add-after Inv-loop μ-loop
-add-after c = search needs
-
-mul-after : tie.Need-mul-after Inv-loop μ-loop
-mul-after c = search needs
-
-shared-slice-read-after : tie.Need-shared-slice-read-after Inv-loop μ-loop
-shared-slice-read-after c = search needs
-
-after-requires : tie.Need-after-requires Inv-loop μ-loop
-after-requires c κs = search needs
+take-step-requires : tie.Need-take-step-requires Inv-loop μ-loop
+take-step-requires c κs = search needs
 
 same-length : tie.Need-same-length Inv-loop μ-loop
 same-length c = search needs
 
 returns : tie.Need-returns Inv-loop μ-loop
 returns c = search needs
+
+add-at : tie.Need-add-at Inv-loop μ-loop
+add-at c = search needs
 
 add-i : tie.Need-add-i Inv-loop μ-loop
 add-i c = search needs
@@ -87,24 +75,20 @@ take-steps-spec =
     (tie.spec
     Inv-loop
     μ-loop
-    new-requires
     loop-holds
     add-loop
-    mul-step
-    shared-slice-read-step
-    add-step
-    mul-step-2
-    shared-slice-read-step-2
-    sub-step
-    part-step-start
-    part-step-end
-    step-requires
-    add-after
-    mul-after
-    shared-slice-read-after
-    after-requires
+    add-take-step
+    mul-take-step
+    sub-take-step
+    part-take-step-start
+    part-take-step-end
+    sub-take-step-2
+    part-take-step-start-2
+    part-take-step-end-2
+    take-step-requires
     same-length
     returns
+    add-at
     add-i
     loop-less
     loop-again

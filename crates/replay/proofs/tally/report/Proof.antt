@@ -5,10 +5,10 @@ use Rattle.replay.proofs.tally.report.Statement.{statement}
 use Rattle.replay.proofs.tally.report.Tie as tie
 
 abbrev Inv-loop : tie.InvT-loop
-Inv-loop counts place₀ place = place ≤ 9
+Inv-loop counts place₀ place = place ≤ 11
 
 abbrev μ-loop : tie.MeasureT-loop
-μ-loop counts place₀ place = 9 - place
+μ-loop counts place₀ place = 11 - place
 
 loop-holds : tie.Need-loop-holds Inv-loop μ-loop
 loop-holds c = search needs

@@ -1,26 +1,18 @@
--- `replay::search::first_difference` is safe and ends: each turn is at a position.
+-- `replay::places::first_difference` is safe and ends: each turn leaves fewer places.
 use borrow.Author.Needs.{needs}
-use Prim.Native.Nat.{_≤_, _-_}
-use Rattle.replay.proofs.search.first_difference.Statement.{statement}
-use Rattle.replay.proofs.search.first_difference.Tie as tie
+use Prim.Native.Nat.{_-_}
+use lib.ListN.{length}
+use Rattle.replay.proofs.places.first_difference.Statement.{statement}
+use Rattle.replay.proofs.places.first_difference.Tie as tie
 
 abbrev Inv-loop : tie.InvT-loop
-Inv-loop recorded positions i₀ i = i ≤ 8192
+Inv-loop recorded places i₀ i = Unit {0}
 
 abbrev μ-loop : tie.MeasureT-loop
-μ-loop recorded positions i₀ i = 8192 - i
+μ-loop recorded places i₀ i = length places - i
 
 loop-holds : tie.Need-loop-holds Inv-loop μ-loop
 loop-holds c = search needs
-
-mul-wide : tie.Need-mul-wide Inv-loop μ-loop
-mul-wide c = search needs
-
-element-copy-out-wide : tie.Need-element-copy-out-wide Inv-loop μ-loop
-element-copy-out-wide c = search needs
-
-wide-requires : tie.Need-wide-requires Inv-loop μ-loop
-wide-requires c κs = search needs
 
 mul-if2 : tie.Need-mul-if2 Inv-loop μ-loop
 mul-if2 c = search needs
@@ -28,8 +20,20 @@ mul-if2 c = search needs
 shared-slice-read-if2 : tie.Need-shared-slice-read-if2 Inv-loop μ-loop
 shared-slice-read-if2 c = search needs
 
+mul-if2-2 : tie.Need-mul-if2-2 Inv-loop μ-loop
+mul-if2-2 c = search needs
+
+shared-slice-read-if2-2 : tie.Need-shared-slice-read-if2-2 Inv-loop μ-loop
+shared-slice-read-if2-2 c = search needs
+
 returns : tie.Need-returns Inv-loop μ-loop
 returns c = search needs
+
+mul-if3 : tie.Need-mul-if3 Inv-loop μ-loop
+mul-if3 c = search needs
+
+shared-slice-read-if3 : tie.Need-shared-slice-read-if3 Inv-loop μ-loop
+shared-slice-read-if3 c = search needs
 
 cast-if3 : tie.Need-cast-if3 Inv-loop μ-loop
 cast-if3 c = search needs
@@ -56,12 +60,13 @@ first-difference-spec =
     Inv-loop
     μ-loop
     loop-holds
-    mul-wide
-    element-copy-out-wide
-    wide-requires
     mul-if2
     shared-slice-read-if2
+    mul-if2-2
+    shared-slice-read-if2-2
     returns
+    mul-if3
+    shared-slice-read-if3
     cast-if3
     returns-2
     add-i
