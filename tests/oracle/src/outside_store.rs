@@ -235,8 +235,8 @@ fn no_entry_for_a_block() -> History {
         "how many values; in the Rust as `iter` counts",
     );
     history.get(span(0, 256), &[&[7], &values[..255]].concat());
-    history.keep(Question::Fields, Answer::Numbers(vec![112, 1, 127, 0]));
-    history.keep(Question::Entries, Answer::Entries(vec![7 << 56, 0]));
+    let bytes = [packed(&values[..128], 7, 0), vec![0; 8]].concat();
+    history.look([112, 1, 127, 0], &values[..127], &[7 << 56, 0], &bytes);
     history
 }
 
