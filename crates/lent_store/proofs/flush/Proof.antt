@@ -1,5 +1,7 @@
--- `lent_store::flush` meets its contract: a walk of its MIR, by hand. The store's borrow is opened and its value copied out; `BlockedBitpacker::flush` is called with the copy and both areas, which are given up for good; the store that it returned is written back, and the borrow is closed at it.
--- It follows the kit's `writer/proofs/put_next` for the store, `writer/proofs/write_pair` for the areas and `percent/proofs/via` for the call.
+-- `lent_store::flush` meets its contract: a walk of its MIR, by hand. The store's borrow is opened and its value copied out,
+-- `BlockedBitpacker::flush` is called with the copy and both areas, the store that it answers is written back, and the borrow is closed at it.
+-- All that is known of the callee is its contract. The areas go to it at their own lifetimes, shares and names: they are given up for good.
+-- It follows the kit's examples `writer/proofs/put_next` (the store), `writer/proofs/write_pair` (the areas) and `percent/proofs/via` (the call).
 use mathlib.Core.Path.{_≡_, refl, ap}
 use Prim.Native.Nat.{ℕ}
 use mathlib.Core.List.{[], _∷_, List}
