@@ -20,7 +20,7 @@ pub enum Written {
 }
 
 // Whether x has a bit at `bits` or above.
-fn over(x: u64, bits: usize) -> bool
+pub fn exceeds(x: u64, bits: usize) -> bool
     ensures { λ r. ⌜ r ≡ leb (2 ^ bits) x ⌝ }
 {
     if bits < 64 { x >> bits != 0 } else { false }
@@ -75,7 +75,7 @@ impl BitPacker {
         if 64 <= bits {
             return true;
         }
-        over(self.mini_buffer, bits)
+        exceeds(self.mini_buffer, bits)
     }
 
     // Puts a value of num_bits bits above those held. Once 64 are complete, eight bytes go to the start
@@ -90,7 +90,7 @@ impl BitPacker {
             return Written::Refused(Refusal::BadWidth);
         }
         let width = num_bits as usize;
-        if over(val, width) {
+        if exceeds(val, width) {
             return Written::Refused(Refusal::TooWide);
         }
         let held = self.mini_buffer;

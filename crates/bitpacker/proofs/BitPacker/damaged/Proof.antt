@@ -9,12 +9,12 @@ returns : tie.Need-returns
 unfolding damagedPacker
 returns c = simp (le-leb _ _ (c .if1 .taken))
 
-over-requires : tie.Need-over-requires
-over-requires c κs = search needs
+exceeds-requires : tie.Need-exceeds-requires
+exceeds-requires c κs = search needs
 
 returns-2 : tie.Need-returns-2
 unfolding damagedPacker
-returns-2 c = simp (lt-leb _ _ (c .before .if1 .left)) (c .over .ensures)
+returns-2 c = simp (lt-leb _ _ (c .before .if1 .left)) (c .exceeds .ensures)
 
 pub damaged-spec : {M : Type 1} → statement M
-damaged-spec = tie.close (tie.spec returns over-requires returns-2)
+damaged-spec = tie.close (tie.spec returns exceeds-requires returns-2)

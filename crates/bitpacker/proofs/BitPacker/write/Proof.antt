@@ -38,7 +38,7 @@ narrow : (c : tie.Else3) → start c .args .num-bits ≤ 64
 narrow c = c .before .before .if2 .left
 
 not-over : (c : tie.Else3) → leb (2 ^ start c .args .num-bits) (start c .args .val) ≡ false
-not-over c = sym (c .before .over .ensures) ∙ c .if3 .left
+not-over c = sym (c .before .exceeds .ensures) ∙ c .if3 .left
 
 fits : (c : tie.Else3) → start c .args .val < 2 ^ start c .args .num-bits
 fits c = leb-false _ _ (not-over c)
@@ -56,8 +56,8 @@ returns-2 : tie.Need-returns-2
 unfolding writeOf
 returns-2 c = simp (sym (c .before .before .damaged .ensures) ∙ c .before .if1 .left, lt-leb _ _ (c .if2 .taken))
 
-over-requires : tie.Need-over-requires
-over-requires c κs = search needs
+exceeds-requires : tie.Need-exceeds-requires
+exceeds-requires c κs = search needs
 
 returns-3 : tie.Need-returns-3
 unfolding writeOf
@@ -65,7 +65,7 @@ returns-3 c =
     simp (
       sym (c .before .before .before .before .damaged .ensures) ∙ c .before .before .before .if1 .left,
       le-leb _ _ (c .before .before .if2 .left),
-      sym (c .before .over .ensures) ∙ c .if3 .taken,
+      sym (c .before .exceeds .ensures) ∙ c .if3 .taken,
     )
 
 add-bits : tie.Need-add-bits
@@ -114,7 +114,7 @@ write-spec =
     damaged-requires
     returns
     returns-2
-    over-requires
+    exceeds-requires
     returns-3
     add-bits
     shl-word

@@ -1,0 +1,3 @@
+-- The laws of the functions for C.
+pub mod Words
+pub mod Calls

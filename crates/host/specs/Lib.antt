@@ -1,0 +1,2 @@
+-- What the functions for C answer and leave.
+pub mod Host
