@@ -5,6 +5,7 @@ ghost use Prim.Native.Nat.{_≤_};
 ghost use lib.ListN.{length};
 use crate::answer;
 use crate::answer::Verdict;
+use crate::forge;
 use crate::line;
 use crate::say::say;
 use crate::say::say_number;
@@ -56,6 +57,15 @@ fn take(
         0 => store::stored(BlockedBitpacker::new(bytes), recorded),
         1 => store::add(store, &question[1..], recorded, bytes, entries),
         2 => store::stored(store.flush(bytes, entries), recorded),
+        11 => forge::fields(store, question, recorded),
+        12 => Taken {
+            verdict: forge::entry(question, recorded, entries),
+            store,
+        },
+        13 => Taken {
+            verdict: forge::byte(question, recorded, bytes),
+            store,
+        },
         _ => Taken {
             verdict: ask(store, question, recorded, bytes, entries),
             store,

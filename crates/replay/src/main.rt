@@ -3,6 +3,7 @@
 mod answer;
 mod column;
 mod filter;
+mod forge;
 mod history;
 mod input;
 mod kind;

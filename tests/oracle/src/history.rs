@@ -34,6 +34,16 @@ pub enum Question {
     Entries,
     /// Every byte that is lent.
     Bytes,
+    /// The store goes on with these fields, in the order in which they are asked for.
+    ForgeFields([u64; 4]),
+    ForgeEntry {
+        place: u64,
+        word: u64,
+    },
+    ForgeByte {
+        place: u64,
+        byte: u8,
+    },
 }
 
 #[derive(Clone, Copy)]
@@ -53,6 +63,14 @@ pub struct Search {
 }
 
 impl Question {
+    /// Whether it is a step that the Rust's store cannot take: its fields are private.
+    pub fn forges(&self) -> bool {
+        matches!(
+            self,
+            Question::ForgeFields(_) | Question::ForgeEntry { .. } | Question::ForgeByte { .. }
+        )
+    }
+
     fn numbers(&self) -> Vec<u64> {
         match self {
             Question::Make => vec![0],
@@ -66,6 +84,11 @@ impl Question {
             Question::Waiting => vec![8],
             Question::Entries => vec![9],
             Question::Bytes => vec![10],
+            Question::ForgeFields([used, blocks, waiting, last_length]) => {
+                vec![11, *used, *blocks, *waiting, *last_length]
+            }
+            Question::ForgeEntry { place, word } => vec![12, *place, *word],
+            Question::ForgeByte { place, byte } => vec![13, *place, u64::from(*byte)],
         }
     }
 }
@@ -96,11 +119,21 @@ impl Answer {
     }
 }
 
+/// The most bytes and entry words that a case may lend.
+const MOST_BYTES: usize = 32_768;
+const MOST_ENTRIES: usize = 256;
+
 /// How many bytes and entry words are lent.
 #[derive(Clone, Copy)]
 pub struct Rooms {
     pub bytes: usize,
     pub entries: usize,
+}
+
+impl Rooms {
+    pub fn fit_a_case(self) -> bool {
+        self.bytes <= MOST_BYTES && self.entries <= MOST_ENTRIES
+    }
 }
 
 pub struct Step {
@@ -145,7 +178,7 @@ pub fn write(
             numbers.extend(list);
         }
     }
-    assert!(numbers.len() <= MOST_NUMBERS);
+    assert!(numbers.len() <= MOST_NUMBERS && rooms.fit_a_case());
     line::write(out, "store", &numbers, &[])
 }
 

@@ -55,7 +55,7 @@ pub fn print(out: &mut impl Write) -> io::Result<()> {
     for question in questions() {
         let by_contract = match question.case() {
             Some(_) => "",
-            None => ", by its contract: too large to be a case",
+            None => BY_CONTRACT,
         };
         writeln!(
             out,
@@ -85,8 +85,11 @@ fn message(why: &(dyn Any + Send)) -> &str {
         .unwrap_or("without a message")
 }
 
+/// After the answer to a question that is no case.
+pub const BY_CONTRACT: &str = ", by its contract: too large to be a case";
+
 /// The Rust's fields are private, so that no one can forge them there.
-const NOT_RUN: &str = "not run: its fields are private";
+pub const NOT_RUN: &str = "not run: its fields are private";
 
 fn listed(values: impl IntoIterator<Item = impl ToString>) -> String {
     let values: Vec<String> = values.into_iter().map(|value| value.to_string()).collect();

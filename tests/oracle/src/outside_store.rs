@@ -2,6 +2,10 @@
 //! port: `oracle outside-store-cases` writes them as cases, `oracle outside-store` prints what the Rust
 //! does at each question beside what the port does.
 
+mod damaged;
+mod forged;
+mod forging;
+
 use std::any::Any;
 use std::io::{self, Write};
 use std::panic::{self, AssertUnwindSafe};
@@ -9,6 +13,7 @@ use std::panic::{self, AssertUnwindSafe};
 use tantivy_bitpacker::BlockedBitpacker;
 
 use crate::history::{self, Answer, BEFORE, Compared, Question, Rooms, Search, Span, Step};
+use crate::outside::{BY_CONTRACT, NOT_RUN};
 
 /// A history as the port takes it by document 01, and the Rust's store after as many adds and flushes: it
 /// refuses none of them.
@@ -30,7 +35,8 @@ struct Row {
 }
 
 pub fn write_cases(out: &mut impl Write) -> io::Result<()> {
-    let histories = histories();
+    let mut histories = histories();
+    histories.retain(|history| history.rooms.fit_a_case());
     for history in &histories {
         let mut compared = Compared::default();
         history::write(&history.steps, history.rooms, &mut compared, out)?;
@@ -46,10 +52,14 @@ pub fn print(out: &mut impl Write) -> io::Result<()> {
     writeln!(out, "|---|---|---|---|---|")?;
     for history in histories() {
         let Rooms { bytes, entries } = history.rooms;
+        let by_contract = match history.rooms.fit_a_case() {
+            true => "",
+            false => BY_CONTRACT,
+        };
         for row in history.rows {
             writeln!(
                 out,
-                "| {} | {bytes} bytes, {entries} entry words: {} | {} | {} | {} |",
+                "| {} | {bytes} bytes, {entries} entry words: {} | {} | {} | {}{by_contract} |",
                 row.what, row.so_far, row.question, row.rust, row.port,
             )?;
         }
@@ -60,7 +70,7 @@ pub fn print(out: &mut impl Write) -> io::Result<()> {
 fn histories() -> Vec<History> {
     // What a panic says is printed in its row, and not when it happens.
     panic::set_hook(Box::new(|_| {}));
-    vec![
+    let mut all = vec![
         march_night(),
         past_the_count(),
         no_room_to_make(),
@@ -69,7 +79,10 @@ fn histories() -> Vec<History> {
         no_room_to_flush(),
         no_entry_for_a_block(),
         no_entry_for_a_flush(),
-    ]
+    ];
+    all.extend(damaged::histories());
+    all.extend(forged::histories());
+    all
 }
 
 fn span(start: u64, count: u64) -> Span {
@@ -222,8 +235,8 @@ fn no_entry_for_a_block() -> History {
         "how many values; in the Rust as `iter` counts",
     );
     history.get(span(0, 256), &[&[7], &values[..255]].concat());
-    history.keep(Question::Fields, Answer::Numbers(vec![112, 1, 127, 0]));
-    history.keep(Question::Entries, Answer::Entries(vec![7 << 56, 0]));
+    let bytes = [packed(&values[..128], 7, 0), vec![0; 8]].concat();
+    history.look([112, 1, 127, 0], &values[..127], &[7 << 56, 0], &bytes);
     history
 }
 
@@ -316,32 +329,42 @@ impl History {
         self.numbers(Question::Fields, &[used, 1, 0, last_length]);
         self.numbers(Question::Waiting, &[0; 128]);
         self.keep(Question::Entries, Answer::Entries(vec![width << 56, base]));
-        let mut bytes = vec![0; used as usize + 8];
-        for (place, value) in values.iter().enumerate() {
-            for bit in 0..width {
-                let at = place as u64 * width + bit;
-                bytes[at as usize / 8] |= (((value - base) >> bit & 1) as u8) << (at % 8);
-            }
-        }
+        let mut bytes = packed(values, width, base);
+        bytes.extend([0; 8]);
         self.keep(Question::Bytes, Answer::Bytes(bytes));
     }
 
     /// Puts the last step into the table.
     fn row(&mut self, what: &'static str, question: &str) {
         let step = self.steps.last().expect("a row is of a step");
-        let rust = match panic::catch_unwind(AssertUnwindSafe(|| asked(&self.rust, &step.question)))
-        {
-            Ok(text) => text,
-            Err(why) => format!("panics: {}", message(why.as_ref())),
-        };
         self.rows.push(Row {
             what,
             so_far: self.so_far,
             question: question.to_string(),
-            rust,
+            rust: self.rust_does(&step.question),
             port: answered(step),
         });
     }
+
+    fn rust_does(&self, question: &Question) -> String {
+        if self.steps.iter().any(|step| step.question.forges()) {
+            return NOT_RUN.to_string();
+        }
+        panic::catch_unwind(AssertUnwindSafe(|| asked(&self.rust, question)))
+            .unwrap_or_else(|why| format!("panics: {}", message(why.as_ref())))
+    }
+}
+
+/// The bytes of a block by the bit rule.
+fn packed(values: &[u64], width: u64, base: u64) -> Vec<u8> {
+    let mut bytes = vec![0; (values.len() * width as usize).div_ceil(8)];
+    for (place, value) in values.iter().enumerate() {
+        for bit in 0..width {
+            let at = place as u64 * width + bit;
+            bytes[at as usize / 8] |= (((value - base) >> bit & 1) as u8) << (at % 8);
+        }
+    }
+    bytes
 }
 
 /// What the Rust does. An add or a flush was done before.
@@ -389,10 +412,10 @@ fn listed(values: &[u64]) -> String {
     let mut rest = values;
     while let [first, ..] = rest {
         let run = |step: u64| {
-            let expected = (0..).map(|i| first.wrapping_add(step * i));
+            let expected = (0..).map(|i| first.checked_add(step * i));
             rest.iter()
                 .zip(expected)
-                .take_while(|(a, b)| *a == b)
+                .take_while(|(a, b)| Some(**a) == *b)
                 .count()
         };
         let (equal, rising) = (run(0), run(1));

@@ -1,0 +1,2 @@
+-- What both walks share.
+pub mod Answer
