@@ -1,0 +1,2 @@
+-- The laws of decimal numerals.
+pub mod Laws

@@ -1,0 +1,2 @@
+-- What a decimal numeral is, and what reading one answers.
+pub mod Digits
