@@ -78,7 +78,7 @@ numeral-append (x ∷ xs) ys =
     ∙ ap (λ p. p + (numeral xs * 10 ^ m + numeral ys)) (sym (mul-assoc (digitOf x) (10 ^ n) (10 ^ m)))
     ∙ sym (ap (λ p. p + numeral ys) (add-mul (digitOf x * 10 ^ n) (numeral xs) (10 ^ m)) ∙ add-assoc (digitOf x * 10 ^ n * 10 ^ m) (numeral xs * 10 ^ m) (numeral ys))
 
-one-digit : (b : ℕ) → numeral (b ∷ []) ≡ digitOf b
+pub one-digit : (b : ℕ) → numeral (b ∷ []) ≡ digitOf b
 unfolding numeral
 one-digit b = omega arith
 

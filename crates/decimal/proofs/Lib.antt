@@ -1,2 +1,3 @@
 -- The laws of decimal numerals.
 pub mod Laws
+pub mod Written

@@ -1,2 +1,3 @@
 -- What a decimal numeral is, and what reading one answers.
 pub mod Digits
+pub mod Written
