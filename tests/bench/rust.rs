@@ -131,7 +131,8 @@ fn main() {
     let sum = match kind {
         0 => pack(width, count, spacing, times),
         1..=4 => column(kind, width, count, spacing, times),
-        5 => add(count, spacing, times),
+        // The Rust's `add` takes its store by reference: it stands beside both forms of the port's.
+        5 | 8 => add(count, spacing, times),
         _ => store(kind, count, spacing, times),
     };
     println!("{sum}");

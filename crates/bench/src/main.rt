@@ -37,6 +37,7 @@ fn work(kind: u64, width: u8, count: usize, spacing: usize, times: usize) -> u64
         5 => store::add(count, spacing, times, &mut bytes),
         6 => store::work(Task::Range, count, spacing, times, &mut bytes),
         7 => store::work(Task::Search, count, spacing, times, &mut bytes),
+        8 => store::add_lent_each(count, spacing, times, &mut bytes),
         _ => 0,
     }
 }

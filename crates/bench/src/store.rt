@@ -29,6 +29,31 @@ fn fill(count: usize, spacing: usize, bytes: &mut [u8], entries: &mut [u64]) -> 
     store
 }
 
+// Adds a value to a store that is lent for the call.
+fn add_lent(
+    mut store: BlockedBitpacker,
+    val: u64,
+    bytes: &mut [u8],
+    entries: &mut [u64],
+) -> BlockedBitpacker {
+    lent_store::add(&mut store, val, bytes, entries);
+    store
+}
+
+fn fill_lent(
+    count: usize,
+    spacing: usize,
+    bytes: &mut [u8],
+    entries: &mut [u64],
+) -> BlockedBitpacker {
+    let made = BlockedBitpacker::new(bytes);
+    let mut store = made.store;
+    for i in 0..count {
+        store = add_lent(store, pack::value_at(i, spacing), bytes, entries);
+    }
+    store
+}
+
 // The whole store, 1,000 values at a time.
 fn range(store: BlockedBitpacker, count: usize, bytes: &[u8], entries: &[u64]) -> u64 {
     let mut output = [0; 1000];
@@ -98,9 +123,29 @@ fn fill_each(
     sum
 }
 
+fn fill_lent_each(
+    count: usize,
+    spacing: usize,
+    times: usize,
+    bytes: &mut [u8],
+    entries: &mut [u64],
+) -> u64 {
+    let mut sum = 0;
+    for _ in 0..times {
+        let store = fill_lent(count, spacing, bytes, entries);
+        sum = wrapping_add_u64(sum, store.used as u64);
+    }
+    sum
+}
+
 pub fn add(count: usize, spacing: usize, times: usize, bytes: &mut [u8]) -> u64 {
     let mut entries = [0; ENTRIES];
     fill_each(count, spacing, times, bytes, &mut entries)
+}
+
+pub fn add_lent_each(count: usize, spacing: usize, times: usize, bytes: &mut [u8]) -> u64 {
+    let mut entries = [0; ENTRIES];
+    fill_lent_each(count, spacing, times, bytes, &mut entries)
 }
 
 pub fn work(task: Task, count: usize, spacing: usize, times: usize, bytes: &mut [u8]) -> u64
