@@ -111,12 +111,12 @@ impl BitUnpacker {
         if self.has_damaged_mask() {
             return Got::Refused(Refusal::Damaged);
         }
+        // one index of 32 bits: no product or sum can wrap
         let width = self.num_bits;
-        let index = idx as usize;
-        if data.len() < column_bytes(index + 1, width) {
+        let bit = idx as usize * width;
+        if data.len() < (bit + width + 7) / 8 {
             return Got::Refused(Refusal::OutOfData);
         }
-        let bit = index * width;
         Got::Value(bits_at(data, bit / 8, bit % 8, self.mask))
     }
 

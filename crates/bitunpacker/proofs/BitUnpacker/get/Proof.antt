@@ -2,13 +2,13 @@
 use mathlib.Core.Path.{_≡_, refl, sym, ap, _∙_}
 use mathlib.Core.Bool.{true, false}
 use mathlib.Core.List.{List}
-use Prim.Native.Nat.{_-_, _*_, _/_, _%_, _^_, _≤_}
-use native.Mathlib.Nat.{mul-le-mul}
+use Prim.Native.Nat.{ℕ, _+_, _-_, _*_, _/_, _%_, _^_, _≤_}
+use native.Mathlib.Nat.{mul-le-mul, add-mul, one-mul}
 use native.Mathlib.Omega.{arith}
 use lib.ListN.{length}
 use borrow.Author.Needs.{needs}
 use borrow.Author.Tests.{le-leb, lt-leb, not-false}
-use Rattle.bit_rule.specs.Bytes.{AreBytes}
+use Rattle.bit_rule.specs.Bytes.{AreBytes, bytesFor}
 use Rattle.bit_rule.specs.Width.{legalWidth}
 use Rattle.bit_rule.proofs.Width.{legal-le}
 use Rattle.bitunpacker.specs.declared.BitUnpacker.{BitUnpacker}
@@ -34,6 +34,18 @@ mask-ok c = sym (c .before .has-damaged-mask .ensures) ∙ c .if2 .left
 unpacker-sound : (c : tie.Else2) → Sound (c .before .before .before .before .before .args .self)
 unpacker-sound c = sound _ (width-ok (c .before .before)) (mask-ok c)
 
+-- the bits in front of the value are far from wrapping
+bits-fit : (c : tie.Else2)
+    → c .before .before .before .before .before .args .idx * c .before .before .before .before .before .args .self .«num_bits» ≤ (2 ^ 32 - 1) * 64
+bits-fit c =
+    let start = c .before .before .before .before .before in
+    let few : start .args .idx ≤ 2 ^ 32 - 1 = omega (arith, start .fits .idx) in
+    mul-le-mul few (narrow (c .before .before))
+
+-- the byte after the last that the value lies in
+last-byte : (i w : ℕ) → (i * w + w + 7) / 8 ≡ bytesFor ((i + 1) * w)
+last-byte i w = omega (arith, add-mul i 1 w, one-mul w)
+
 -- ---- the needs
 
 has-bad-width-requires : tie.Need-has-bad-width-requires
@@ -50,22 +62,20 @@ returns-2 : tie.Need-returns-2
 unfolding getOf
 returns-2 c = simp (width-ok (c .before .before), sym (c .before .has-damaged-mask .ensures) ∙ c .if2 .taken)
 
-add-column-bytes : tie.Need-add-column-bytes
-add-column-bytes c = search needs
+mul-bit : tie.Need-mul-bit
+mul-bit c = omega (arith, bits-fit c)
 
-column-bytes-requires : tie.Need-column-bytes-requires
-column-bytes-requires c κs = (omega arith, narrow (c .before .before))
+add-if3 : tie.Need-add-if3
+add-if3 c = omega (arith, bits-fit c, narrow (c .before .before))
+
+add-if3-2 : tie.Need-add-if3-2
+add-if3-2 c = omega (arith, bits-fit c, narrow (c .before .before))
 
 returns-3 : tie.Need-returns-3
 unfolding getOf
 returns-3 c =
-    simp (width-ok (c .before .before .before .before), mask-ok (c .before .before), outside _ _ (c .before .column-bytes .ensures) (c .if3 .taken))
-
-mul-bit : tie.Need-mul-bit
-mul-bit c =
-    let start = c .before .before .before .before .before .before .before in
-    let few : start .args .idx ≤ 2 ^ 32 - 1 = omega (arith, start .fits .idx) in
-    omega (arith, mul-le-mul few (narrow (c .before .before .before .before)))
+    simp
+    (width-ok (c .before .before .before), mask-ok (c .before), outside _ _ (last-byte (c .before .before .before .before .before .before .args .idx) _) (c .if3 .taken))
 
 bits-at-requires : tie.Need-bits-at-requires
 bits-at-requires c κs = search needs
@@ -73,13 +83,13 @@ bits-at-requires c κs = search needs
 returns-4 : tie.Need-returns-4
 unfolding getOf
 returns-4 c =
-    let checked = c .before .before .before in
+    let checked = c .before .before in
     let known = checked .before .before .before .before in
     let start = known .before in
     let unpacker = start .args .self in
     let i = start .args .idx in
     let bytes : AreBytes (start .args .«data» .now) = λ k. known .shared-slice-known .given k .fits in
-    simp (width-ok (checked .before .before), mask-ok checked, inside _ _ (c .before .before .column-bytes .ensures) (c .before .if3 .left))
+    simp (width-ok (checked .before .before), mask-ok checked, inside _ _ (last-byte i (unpacker .«num_bits»)) (c .before .if3 .left))
     (ap Value
     (c .bits-at .ensures
     ∙ read-value unpacker i (i * unpacker .«num_bits» / 8) (i * unpacker .«num_bits» % 8) (start .args .«data» .now) bytes
@@ -93,9 +103,9 @@ get-spec =
     returns
     has-damaged-mask-requires
     returns-2
-    add-column-bytes
-    column-bytes-requires
-    returns-3
     mul-bit
+    add-if3
+    add-if3-2
+    returns-3
     bits-at-requires
     returns-4)
