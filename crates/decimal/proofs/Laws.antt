@@ -1,9 +1,9 @@
 -- Digits up to a place, and the number that they stand for so far: each digit more is ten times that number and the digit.
 use mathlib.Core.Path.{_≡_, refl, sym, ap, ap₂, _∙_, subst}
 use mathlib.Core.Logic.{⊎-elim}
-use mathlib.Core.Bool.{Bool, true, false, cond, and-eq-true-iff}
+use mathlib.Core.Bool.{Bool, true, false, not, _||_, cond, and-eq-true-iff}
 use mathlib.Core.List.{List, [], _∷_, _++_}
-use Prim.Native.Nat.{ℕ, zero, suc, _+_, _-_, _*_, _^_, _≤_, _<_, zero-le}
+use Prim.Native.Nat.{ℕ, zero, suc, _+_, _*_, _%_, _^_, _≤_, _<_, zero-le}
 use native.Mathlib.Nat.{le-refl, mul-le-mul-left, mul-one, add-mul, mul-assoc, add-assoc, le-antisymm, one-le-pow}
 use native.Mathlib.Numerals.{add-one}
 use native.Mathlib.Omega.{arith}
@@ -11,9 +11,12 @@ use lib.Dec.{leb}
 use lib.ListN.{length, getD, take, drop, length-append, take-append-drop}
 use lib.Pow.{pow-add}
 use lib.Seq.{take-suc}
-use borrow.Author.Tests.{leb-true}
+use borrow.Author.Tests.{leb-true, leb-false, lt-leb, le-leb, eq-eqb, ne-eqb, not-true, not-false}
 use Rattle.bit_rule.proofs.Width.{le-or-lt}
-use Rattle.decimal.specs.Digits.{isDigit, digitOf, firstOther, numeral}
+use Rattle.decimal.specs.declared.line.Line.{Line}
+use Rattle.decimal.specs.declared.Numeral.the-variants.{Number, Empty, NotADigit, TooLarge}
+use Rattle.decimal.specs.Digits.{isDigit, digitOf, firstOther, numeral, appendOf}
+use Rattle.decimal.specs.Line.{lineOf, wrongLine, crLine, digitLine, byteOf, endedOf}
 
 -- ---- the first byte that is no digit
 
@@ -41,10 +44,13 @@ digit-below (b ∷ bs) (suc i) below = digit-below bs i (by-digit (isDigit b) be
     by-digit true some = omega arith
     by-digit false some = absurd (omega arith)
 
-pub digit-range : (text : List ℕ) (i : ℕ) → i < firstOther text → (48 ≤ getD text i 0) × (getD text i 0 ≤ 57)
-digit-range text i below =
-    let both = and-eq-true-iff (leb 48 (getD text i 0)) (leb (getD text i 0) 57) .0 (digit-below text i below) in
+pub range-of-digit : (b : ℕ) → isDigit b ≡ true → (48 ≤ b) × (b ≤ 57)
+range-of-digit b digit =
+    let both = and-eq-true-iff (leb 48 b) (leb b 57) .0 digit in
     (leb-true _ _ (both .0), leb-true _ _ (both .1))
+
+pub digit-range : (text : List ℕ) (i : ℕ) → i < firstOther text → (48 ≤ getD text i 0) × (getD text i 0 ≤ 57)
+digit-range text i below = range-of-digit (getD text i 0) (digit-below text i below)
 
 -- one digit more
 pub other-more : (text : List ℕ) (i : ℕ) → i ≤ firstOther text → i < length text → isDigit (getD text i 0) ≡ true → i + 1 ≤ firstOther text
@@ -97,3 +103,116 @@ numeral-first text i =
     let whole : numeral text ≡ numeral (take i text) * 10 ^ length rest + numeral rest = ap numeral (sym (take-append-drop i text)) ∙ numeral-append (take i text) rest in
     let some : numeral (take i text) * 1 ≤ numeral (take i text) * 10 ^ length rest = mul-le-mul-left (numeral (take i text)) (one-le-pow (length rest) 10 (omega arith)) in
     omega (arith, mul-one (numeral (take i text)))
+
+-- ---- what the answer about one digit more says
+
+pub record Appended (value b n : ℕ) : Type 0 where
+  pub digit : isDigit b ≡ true
+  pub number : value * 10 + digitOf b ≡ n
+  pub fits : n < 2 ^ 64
+
+pub appended : (value b n : ℕ) → appendOf value b ≡ Number n → Appended value b n
+unfolding appendOf
+appended value b n is = by-tests (not (isDigit b)) (leb (2 ^ 64) (value * 10 + digitOf b)) refl refl is
+  where
+    by-tests : (o l : Bool) → not (isDigit b) ≡ o → leb (2 ^ 64) (value * 10 + digitOf b) ≡ l
+        → cond o (NotADigit 0) (cond l TooLarge (Number (value * 10 + digitOf b))) ≡ Number n
+        → Appended value b n
+    by-tests true l o-is l-is h = absurd (let z : _≡_ {A = ℕ} 0 1 = cc in omega arith)
+    by-tests false true o-is l-is h = absurd (let z : _≡_ {A = ℕ} 0 1 = cc in omega arith)
+    by-tests false false o-is l-is h =
+        let same : value * 10 + digitOf b ≡ n = cc in
+        record { digit = not-false _ o-is; number = same; fits = omega (arith, leb-false (2 ^ 64) (value * 10 + digitOf b) l-is) }
+
+pub appended-too-large : (value b : ℕ) → appendOf value b ≡ TooLarge → (isDigit b ≡ true) × (2 ^ 64 ≤ value * 10 + digitOf b)
+unfolding appendOf
+appended-too-large value b is = by-tests (not (isDigit b)) (leb (2 ^ 64) (value * 10 + digitOf b)) refl refl is
+  where
+    by-tests : (o l : Bool) → not (isDigit b) ≡ o → leb (2 ^ 64) (value * 10 + digitOf b) ≡ l
+        → cond o (NotADigit 0) (cond l TooLarge (Number (value * 10 + digitOf b))) ≡ TooLarge
+        → (isDigit b ≡ true) × (2 ^ 64 ≤ value * 10 + digitOf b)
+    by-tests true l o-is l-is h = absurd (let z : _≡_ {A = ℕ} 0 1 = cc in omega arith)
+    by-tests false true o-is l-is h = (not-false _ o-is, leb-true (2 ^ 64) (value * 10 + digitOf b) l-is)
+    by-tests false false o-is l-is h = absurd (let z : _≡_ {A = ℕ} 0 1 = cc in omega arith)
+
+pub appended-no-digit : (value b k : ℕ) → appendOf value b ≡ NotADigit k → isDigit b ≡ false
+unfolding appendOf
+appended-no-digit value b k is = by-tests (not (isDigit b)) (leb (2 ^ 64) (value * 10 + digitOf b)) refl is
+  where
+    by-tests : (o l : Bool) → not (isDigit b) ≡ o
+        → cond o (NotADigit 0) (cond l TooLarge (Number (value * 10 + digitOf b))) ≡ NotADigit k → isDigit b ≡ false
+    by-tests true l o-is h = not-true _ o-is
+    by-tests false true o-is h = absurd (let z : _≡_ {A = ℕ} 0 1 = cc in omega arith)
+    by-tests false false o-is h = absurd (let z : _≡_ {A = ℕ} 0 1 = cc in omega arith)
+
+pub appended-never-empty : (value b : ℕ) → appendOf value b ≡ Empty → ⊥
+unfolding appendOf
+appended-never-empty value b is = by-tests (not (isDigit b)) (leb (2 ^ 64) (value * 10 + digitOf b)) is
+  where
+    by-tests : (o l : Bool) → cond o (NotADigit 0) (cond l TooLarge (Number (value * 10 + digitOf b))) ≡ Empty → ⊥
+    by-tests true l h = let z : _≡_ {A = ℕ} 0 1 = cc in omega arith
+    by-tests false true h = let z : _≡_ {A = ℕ} 0 1 = cc in omega arith
+    by-tests false false h = let z : _≡_ {A = ℕ} 0 1 = cc in omega arith
+
+-- ---- one byte more of a line
+
+pub byte-of-wrong : (l : Line) (b : ℕ) → l .wrong ≡ true → byteOf l b ≡ l
+unfolding byteOf
+byte-of-wrong l b wrong = simp wrong
+
+module _ (l : Line) (b : ℕ) (right : l .wrong ≡ false) where
+  pub byte-after-cr : l .«after_cr» ≡ true → byteOf l b ≡ wrongLine l
+  unfolding byteOf
+  byte-after-cr cr = simp (right, cr)
+
+  pub byte-is-cr : l .«after_cr» ≡ false → b ≡ 13 → byteOf l b ≡ crLine l
+  unfolding byteOf
+  byte-is-cr no-cr is = simp (right, no-cr, eq-eqb b 13 is)
+
+  pub byte-is-other : l .«after_cr» ≡ false → (b ≡ 13 → ⊥) → isDigit b ≡ false → byteOf l b ≡ wrongLine l
+  unfolding byteOf
+  byte-is-other no-cr differs other = simp (right, no-cr, ne-eqb b 13 differs, other)
+
+  pub byte-is-digit : l .«after_cr» ≡ false → isDigit b ≡ true → byteOf l b ≡ digitLine l (digitOf b)
+  unfolding byteOf
+  byte-is-digit no-cr digit = simp (right, no-cr, ne-eqb b 13 (λ is. omega (arith, range-of-digit b digit .0)), digit)
+
+  pub byte-fits : l .«after_cr» ≡ false → isDigit b ≡ true → l .value * 10 + digitOf b < 2 ^ 64
+      → byteOf l b ≡ lineOf ((l .digits + 1) % 2 ^ 64) (cond (l .«too_large») 0 (l .value * 10 + digitOf b)) (l .«too_large») false false
+  byte-fits no-cr digit small =
+      byte-is-digit no-cr digit ∙ by-large (l .«too_large») (leb (2 ^ 64) (l .value * 10 + digitOf b)) (lt-leb (2 ^ 64) _ small)
+    where
+      by-large : (large more : Bool) → more ≡ false
+          → lineOf ((l .digits + 1) % 2 ^ 64) (cond (large || more) 0 (l .value * 10 + digitOf b)) (large || more) false false
+          ≡ lineOf ((l .digits + 1) % 2 ^ 64) (cond large 0 (l .value * 10 + digitOf b)) large false false
+      by-large true more is = refl
+      by-large false more is = ap (λ t. lineOf ((l .digits + 1) % 2 ^ 64) (cond t 0 (l .value * 10 + digitOf b)) t false false) is
+
+  pub byte-too-large : l .«after_cr» ≡ false → isDigit b ≡ true → 2 ^ 64 ≤ l .value * 10 + digitOf b
+      → byteOf l b ≡ lineOf ((l .digits + 1) % 2 ^ 64) 0 true false false
+  byte-too-large no-cr digit large =
+      byte-is-digit no-cr digit ∙ by-large (l .«too_large») (leb (2 ^ 64) (l .value * 10 + digitOf b)) (le-leb (2 ^ 64) _ large)
+    where
+      by-large : (large more : Bool) → more ≡ true
+          → lineOf ((l .digits + 1) % 2 ^ 64) (cond (large || more) 0 (l .value * 10 + digitOf b)) (large || more) false false
+          ≡ lineOf ((l .digits + 1) % 2 ^ 64) 0 true false false
+      by-large true more is = refl
+      by-large false more is = ap (λ t. lineOf ((l .digits + 1) % 2 ^ 64) (cond t 0 (l .value * 10 + digitOf b)) t false false) is
+
+-- ---- what a line's end says
+
+pub ended-wrong : (l : Line) → l .wrong ≡ true → endedOf l ≡ NotADigit (l .digits)
+unfolding endedOf
+ended-wrong l wrong = simp wrong
+
+pub ended-empty : (l : Line) → l .wrong ≡ false → l .digits ≡ 0 → endedOf l ≡ Empty
+unfolding endedOf
+ended-empty l right none = simp (right, eq-eqb (l .digits) 0 none)
+
+pub ended-too-large : (l : Line) → l .wrong ≡ false → (l .digits ≡ 0 → ⊥) → l .«too_large» ≡ true → endedOf l ≡ TooLarge
+unfolding endedOf
+ended-too-large l right some large = simp (right, ne-eqb (l .digits) 0 some, large)
+
+pub ended-number : (l : Line) → l .wrong ≡ false → (l .digits ≡ 0 → ⊥) → l .«too_large» ≡ false → endedOf l ≡ Number (l .value)
+unfolding endedOf
+ended-number l right some small = simp (right, ne-eqb (l .digits) 0 some, small)

@@ -1,7 +1,7 @@
 -- A decimal numeral is one or more digits, the most significant first; leading zeros are allowed. It stands for the sum of its digits times
 -- powers of ten.
 use Prim.Native.Nat.{ℕ, suc, _+_, _-_, _*_, _^_}
-use mathlib.Core.Bool.{Bool, _&&_, cond}
+use mathlib.Core.Bool.{Bool, not, _&&_, cond}
 use mathlib.Core.List.{List, [], _∷_}
 use lib.Dec.{leb, ltb, eqb}
 use lib.ListN.{length}
@@ -25,6 +25,12 @@ firstOther (b ∷ bs) = cond (isDigit b) (suc (firstOther bs)) 0
 unfoldable pub numeral : List ℕ → ℕ
 numeral [] = 0
 numeral (b ∷ bs) = digitOf b * 10 ^ length bs + numeral bs
+
+-- The number of a numeral with one digit more, from the number so far.
+unfoldable pub appendOf : ℕ → ℕ → Numeral
+appendOf value b =
+    let number = value * 10 + digitOf b in
+    firstThatHolds (check (not (isDigit b)) (NotADigit 0) ∷ check (leb (2 ^ 64) number) TooLarge ∷ []) (Number number)
 
 unfoldable pub numberOrTooLarge : List ℕ → Numeral
 numberOrTooLarge text = firstThatHolds (check (leb (2 ^ 64) (numeral text)) TooLarge ∷ []) (Number (numeral text))

@@ -1,7 +1,10 @@
 // A number as decimal text: what a line says, and where it goes wrong.
+mod line;
+
+pub use line::Line;
 ghost use mathlib.Core.Path.{_≡_};
 ghost use lib.ListN.{length};
-ghost use Rattle.decimal.specs.Digits.{isDigit, firstOther, numberOrTooLarge, readOf};
+ghost use Rattle.decimal.specs.Digits.{isDigit, firstOther, appendOf, numberOrTooLarge, readOf};
 
 // The number, or the first thing that is wrong.
 pub enum Numeral {
@@ -34,6 +37,24 @@ fn first_other(text: &[u8]) -> usize
     i
 }
 
+// The number of one digit more behind those that stand for value, unless it takes more than 64 bits.
+pub fn append(value: u64, byte: u8) -> Numeral
+    ensures { λ r. ⌜ r ≡ appendOf value byte ⌝ }
+{
+    if !is_digit(byte) {
+        return Numeral::NotADigit(0);
+    }
+    if value > u64::MAX / 10 {
+        return Numeral::TooLarge;
+    }
+    let tens = value * 10;
+    let digit = (byte - b'0') as u64;
+    if digit > u64::MAX - tens {
+        return Numeral::TooLarge;
+    }
+    Numeral::Number(tens + digit)
+}
+
 // The number that digits stand for, unless it takes more than 64 bits.
 fn number(text: &[u8]) -> Numeral
     requires { ⌜ firstOther (now text) ≡ length (now text) ⌝ }
@@ -42,15 +63,14 @@ fn number(text: &[u8]) -> Numeral
     let mut value: u64 = 0;
     let mut i = 0;
     while i < text.len() {
-        if value > u64::MAX / 10 {
-            return Numeral::TooLarge;
+        match append(value, text[i]) {
+            Numeral::Number(more) => {
+                value = more;
+            }
+            Numeral::NotADigit(_) => return Numeral::TooLarge,
+            Numeral::Empty => return Numeral::TooLarge,
+            Numeral::TooLarge => return Numeral::TooLarge,
         }
-        let tens = value * 10;
-        let digit = (text[i] - b'0') as u64;
-        if digit > u64::MAX - tens {
-            return Numeral::TooLarge;
-        }
-        value = tens + digit;
         i += 1;
     }
     Numeral::Number(value)
