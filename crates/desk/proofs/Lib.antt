@@ -1,0 +1,2 @@
+-- The laws of the desk's words and lists.
+pub mod Laws
