@@ -1,0 +1,165 @@
+// Refusals: `refused NUMBER NAME: what is wrong, and what to do`. Numbers to 12 are the papers'; those from 20 on are the program's own.
+ghost use mathlib.Core.Path.{_≡_};
+use crate::LIMIT;
+use crate::REFUSED;
+use blocked_bitpacker::BlockedBitpacker;
+use blocked_bitpacker::Counted;
+use refusal::Refusal;
+use terms::Loaded;
+use terms::Trouble;
+
+fn name(err: i32, why: Refusal) -> bool {
+    match why {
+        Refusal::BadWidth => io::write_all(err, b" BadWidth: "),
+        Refusal::TooWide => io::write_all(err, b" TooWide: "),
+        Refusal::OutOfData => io::write_all(err, b" OutOfData: "),
+        Refusal::NoRoom => io::write_all(err, b" NoRoom: "),
+        Refusal::EntriesFull => io::write_all(err, b" EntriesFull: "),
+        Refusal::Closed => io::write_all(err, b" Closed: "),
+        Refusal::NoSuchIndex => io::write_all(err, b" NoSuchIndex: "),
+        Refusal::Damaged => io::write_all(err, b" Damaged: "),
+    }
+}
+
+// `refused NUMBER NAME: `
+fn begin(err: i32, why: Refusal) -> bool {
+    io::write_all(err, b"refused ");
+    io::print_decimal(err, why.number() as u64);
+    name(err, why)
+}
+
+// How many values the store has, as the refusal of an index says it.
+fn among(err: i32, values: u64) -> bool {
+    io::write_all(err, b"the column has ");
+    io::print_decimal(err, values);
+    io::write_all(err, b" values; ask for ids below that\n")
+}
+
+// No file leads to any other refusal of an answer.
+fn unforeseen(err: i32) -> bool {
+    io::write_all(
+        err,
+        b"no file should lead here; please report it, with the file\n",
+    )
+}
+
+// An id, or a range of ids, that the store refuses.
+pub fn answer(err: i32, why: Refusal, store: BlockedBitpacker, bytes: &[u8], entries: &[u64]) -> u8
+    ensures { λ r. ⌜ r ≡ 1 ⌝ }
+{
+    begin(err, why);
+    match store.count(bytes, entries) {
+        Counted::Count(values) => {
+            if why.number() == 7 {
+                among(err, values as u64);
+            } else {
+                unforeseen(err);
+            }
+        }
+        Counted::Refused(_) => {
+            unforeseen(err);
+        }
+    }
+    REFUSED
+}
+
+// ---- a text
+
+fn line(err: i32, lines: usize) -> bool {
+    io::write_all(err, b"line ");
+    io::print_decimal(err, std::num::wrapping_add_u64(lines as u64, 1))
+}
+
+fn bad_text(err: i32, lines: usize) -> bool {
+    io::write_all(err, b"refused 20 BadText: ");
+    line(err, lines)
+}
+
+fn too_many(err: i32, lines: usize) -> bool {
+    line(err, lines);
+    io::write_all(err, b" is one too many: a column has at most ");
+    io::print_decimal(err, LIMIT);
+    io::write_all(err, b" values; split the file\n")
+}
+
+fn not_added(err: i32, why: Refusal, lines: usize) -> bool {
+    begin(err, why);
+    if why.number() == 5 {
+        too_many(err, lines)
+    } else {
+        unforeseen(err)
+    }
+}
+
+fn other_byte(err: i32, lines: usize, place: usize) -> bool {
+    bad_text(err, lines);
+    io::write_all(err, b" has no digit at place ");
+    io::print_decimal(err, std::num::wrapping_add_u64(place as u64, 1));
+    io::write_all(err, b"; write each number in digits only, one a line\n")
+}
+
+// The line that stopped a text: the one after those that were added.
+pub fn text(err: i32, loaded: Loaded) -> u8
+    ensures { λ r. ⌜ r ≡ 1 ⌝ }
+{
+    let lines = loaded.lines;
+    let trouble = loaded.trouble;
+    match trouble {
+        Trouble::Nothing => false,
+        Trouble::Empty => {
+            bad_text(err, lines);
+            io::write_all(err, b" is empty; write one number on it, or take it out\n")
+        }
+        Trouble::NotADigit(place) => other_byte(err, lines, place),
+        Trouble::TooLarge => {
+            bad_text(err, lines);
+            io::write_all(
+                err,
+                b" is a number of 18446744073709551616 or more; the largest is 18446744073709551615\n",
+            )
+        }
+        Trouble::Refused(why) => not_added(err, why, lines),
+    }
+    ;
+    REFUSED
+}
+
+// ---- the world
+
+fn because(err: i32, error: i32) -> bool {
+    if error == libc::ENOENT {
+        return io::write_all(err, b"there is no such file; check its name\n");
+    }
+    if error == libc::EACCES {
+        return io::write_all(err, b"it may not be read; ask for the right to read it\n");
+    }
+    if error == libc::EISDIR {
+        return io::write_all(err, b"it is a folder; name a file in it\n");
+    }
+    io::write_all(
+        err,
+        b"the system cannot read it; try another place for it\n",
+    )
+}
+
+// A file that cannot be opened or read to its end.
+pub fn file(err: i32, path: &[u8], error: i32) -> u8
+    ensures { λ r. ⌜ r ≡ 1 ⌝ }
+{
+    io::write_all(err, b"refused 21 NoFile: ");
+    io::write_all(err, path);
+    io::write_all(err, b": ");
+    because(err, error);
+    REFUSED
+}
+
+// Standard output did not take the whole answer.
+pub fn unwritable(err: i32) -> u8
+    ensures { λ r. ⌜ r ≡ 1 ⌝ }
+{
+    io::write_all(
+        err,
+        b"refused 22 NotWritten: the answer could not be written in full; what was written is not to be used\n",
+    );
+    REFUSED
+}

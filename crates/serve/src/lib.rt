@@ -1,0 +1,155 @@
+// Answers what the desk's words ask for: reads the file, loads it and writes the answer, or says why not.
+// It decides nothing: what the words mean is `desk`'s, what a text leads to `terms`', what is listed the store's.
+mod file;
+mod page;
+mod rows;
+
+ghost use Prim.Native.Nat.{_≤_};
+use bitunpacker::Found;
+use bitunpacker::Got;
+use blocked_bitpacker::BlockedBitpacker;
+use blocked_bitpacker::Counted;
+use desk::Request;
+use file::byte_area;
+use file::entry_area;
+use file::position_area;
+use notices::USAGE;
+
+fn get(out: i32, err: i32, store: BlockedBitpacker, id: u64, bytes: &[u8], entries: &[u64]) -> u8
+    ensures { λ r. ⌜ r ≤ 2 ⌝ }
+{
+    match store.get(id as usize, bytes, entries) {
+        Got::Value(value) => rows::value(out, err, value),
+        Got::Refused(why) => notices::answer(err, why, store, bytes, entries),
+    }
+}
+
+// Lists what was found, of so many ids that were asked about.
+fn found(
+    out: i32,
+    err: i32,
+    store: BlockedBitpacker,
+    answer: Found,
+    asked: u64,
+    bytes: &[u8],
+    entries: &[u64],
+    positions: &[u32],
+) -> u8
+    ensures { λ r. ⌜ r ≤ 2 ⌝ }
+{
+    match answer {
+        Found::Ids(count) => rows::list(out, err, store, count, asked, bytes, entries, positions),
+        Found::Refused(why) => notices::answer(err, why, store, bytes, entries),
+    }
+}
+
+fn list(
+    out: i32,
+    err: i32,
+    store: BlockedBitpacker,
+    lo: u64,
+    hi: u64,
+    bytes: &[u8],
+    entries: &[u64],
+) -> u8
+    ensures { λ r. ⌜ r ≤ 2 ⌝ }
+{
+    let mut positions = position_area();
+    match store.count(bytes, entries) {
+        Counted::Refused(why) => notices::answer(err, why, store, bytes, entries),
+        Counted::Count(values) => {
+            let answer = desk::list_all(store, lo, hi, bytes, entries, &mut positions);
+            found(
+                out,
+                err,
+                store,
+                answer,
+                values as u64,
+                bytes,
+                entries,
+                &positions,
+            )
+        }
+    }
+}
+
+fn list_part(
+    out: i32,
+    err: i32,
+    store: BlockedBitpacker,
+    lo: u64,
+    hi: u64,
+    from: u64,
+    to: u64,
+    bytes: &[u8],
+    entries: &[u64],
+) -> u8
+    ensures { λ r. ⌜ r ≤ 2 ⌝ }
+{
+    let mut positions = position_area();
+    let answer = desk::list(store, lo, hi, from, to, bytes, entries, &mut positions);
+    let asked = if from < to { to - from } else { 0 };
+    found(out, err, store, answer, asked, bytes, entries, &positions)
+}
+
+fn answer(
+    out: i32,
+    err: i32,
+    request: Request,
+    store: BlockedBitpacker,
+    bytes: &[u8],
+    entries: &[u64],
+) -> u8
+    ensures { λ r. ⌜ r ≤ 2 ⌝ }
+{
+    match request {
+        Request::Show => rows::show(out, err, store, bytes, entries),
+        Request::Get(id) => get(out, err, store, id, bytes, entries),
+        Request::List(lo, hi) => list(out, err, store, lo, hi, bytes, entries),
+        Request::ListPart(lo, hi, from, to) => {
+            list_part(out, err, store, lo, hi, from, to, bytes, entries)
+        }
+        Request::Help => USAGE,
+        Request::NotANumber(_) => USAGE,
+        Request::Wrong => USAGE,
+    }
+}
+
+// Loads the file and answers from the store.
+fn from_file(out: i32, err: i32, request: Request, path: &[u8]) -> u8
+    ensures { λ r. ⌜ r ≤ 2 ⌝ }
+{
+    let fd = os::open_read(path);
+    if fd < 0 {
+        return notices::file(err, path, os::errno());
+    }
+    let mut bytes = byte_area();
+    let mut entries = entry_area();
+    let read = file::load(fd, &mut bytes, &mut entries);
+    libc::close(fd);
+    if read.failed {
+        return notices::file(err, path, read.error);
+    }
+    let loaded = read.loaded;
+    let trouble = loaded.trouble;
+    if terms::is_trouble(trouble) {
+        return notices::text(err, loaded);
+    }
+    answer(out, err, request, loaded.store, &bytes, &entries)
+}
+
+// Answers a request on the file of a name. What is read and written is the world's, so the contract says only which
+// statuses there are (docs/PROMISES.md).
+pub fn serve(out: i32, err: i32, request: Request, path: &[u8]) -> u8
+    ensures { λ r. ⌜ r ≤ 2 ⌝ }
+{
+    match request {
+        Request::Help => notices::help(out, err),
+        Request::NotANumber(word) => notices::not_a_number(err, word),
+        Request::Wrong => notices::wrong(err),
+        Request::Show => from_file(out, err, request, path),
+        Request::Get(_) => from_file(out, err, request, path),
+        Request::List(_, _) => from_file(out, err, request, path),
+        Request::ListPart(_, _, _, _) => from_file(out, err, request, path),
+    }
+}
