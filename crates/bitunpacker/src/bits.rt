@@ -63,17 +63,35 @@ fn load_tail(bytes: &[u8], at: usize) -> u64
     value
 }
 
-// The bits above `shift` of the eight bytes at a place, cut by a mask. Past the end a byte counts as 0.
+// The bits above `shift` of eight bytes that are there, cut by a mask.
+pub(crate) fn word_at(bytes: &[u8], at: usize, shift: usize, mask: u64) -> u64
+    requires { ⌜ at + 8 ≤ length (now bytes) ⌝ }
+    requires { ⌜ shift < 8 ⌝ }
+    ensures { λ r. ⌜ r ≡ bitAnd (number (take 8 (drop at (now (bytes .entry)))) / 2 ^ shift) mask ⌝ }
+{
+    load_word(bytes, at) >> shift & mask
+}
+
+// The same near the end, where a byte that is not there counts as 0.
+pub(crate) fn tail_at(bytes: &[u8], at: usize, shift: usize, mask: u64) -> u64
+    requires { ⌜ length (now bytes) < at + 8 ⌝ }
+    requires { ⌜ shift < 8 ⌝ }
+    ensures { λ r. ⌜ r ≡ bitAnd (number (take 8 (drop at (now (bytes .entry)))) / 2 ^ shift) mask ⌝ }
+{
+    load_tail(bytes, at) >> shift & mask
+}
+
+// Either of the two, at any place.
 pub(crate) fn bits_at(bytes: &[u8], at: usize, shift: usize, mask: u64) -> u64
     requires { ⌜ shift < 8 ⌝ }
     ensures { λ r. ⌜ r ≡ bitAnd (number (take 8 (drop at (now (bytes .entry)))) / 2 ^ shift) mask ⌝ }
 {
     let len = bytes.len();
     if len < 8 {
-        return load_tail(bytes, at) >> shift & mask;
+        return tail_at(bytes, at, shift, mask);
     }
     if len - 8 < at {
-        return load_tail(bytes, at) >> shift & mask;
+        return tail_at(bytes, at, shift, mask);
     }
-    load_word(bytes, at) >> shift & mask
+    word_at(bytes, at, shift, mask)
 }

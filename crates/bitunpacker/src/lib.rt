@@ -7,6 +7,8 @@ mod search;
 use bits::bits_at;
 use bits::column_bytes;
 use bits::mask_of;
+use bits::tail_at;
+use bits::word_at;
 use refusal::Refusal;
 use search::find;
 ghost use mathlib.Core.Path.{_≡_};
@@ -111,13 +113,17 @@ impl BitUnpacker {
         if self.has_damaged_mask() {
             return Got::Refused(Refusal::Damaged);
         }
-        // one index of 32 bits: no product or sum can wrap
+        // One index of 32 bits: no product or sum can wrap. A value lies within the eight bytes that it starts in.
         let width = self.num_bits;
         let bit = idx as usize * width;
+        let at = bit / 8;
+        if at + 8 <= data.len() {
+            return Got::Value(word_at(data, at, bit % 8, self.mask));
+        }
         if data.len() < (bit + width + 7) / 8 {
             return Got::Refused(Refusal::OutOfData);
         }
-        Got::Value(bits_at(data, bit / 8, bit % 8, self.mask))
+        Got::Value(tail_at(data, at, bit % 8, self.mask))
     }
 
     // Fills the output with the values from an index on, all of which lie in the data.
