@@ -5,6 +5,7 @@ mod page;
 mod rows;
 
 ghost use Prim.Native.Nat.{_≤_};
+ghost use Rattle.serve.specs.Status.{Status};
 use bitunpacker::Found;
 use bitunpacker::Got;
 use blocked_bitpacker::BlockedBitpacker;
@@ -13,10 +14,10 @@ use desk::Request;
 use file::byte_area;
 use file::entry_area;
 use file::position_area;
-use notices::USAGE;
+use notices::REFUSED;
 
 fn get(out: i32, err: i32, store: BlockedBitpacker, id: u64, bytes: &[u8], entries: &[u64]) -> u8
-    ensures { λ r. ⌜ r ≤ 2 ⌝ }
+    ensures { λ r. ⌜ r ≤ 1 ⌝ }
 {
     match store.get(id as usize, bytes, entries) {
         Got::Value(value) => rows::value(out, err, value),
@@ -35,7 +36,7 @@ fn found(
     entries: &[u64],
     positions: &[u32],
 ) -> u8
-    ensures { λ r. ⌜ r ≤ 2 ⌝ }
+    ensures { λ r. ⌜ r ≤ 1 ⌝ }
 {
     match answer {
         Found::Ids(count) => rows::list(out, err, store, count, asked, bytes, entries, positions),
@@ -52,7 +53,7 @@ fn list(
     bytes: &[u8],
     entries: &[u64],
 ) -> u8
-    ensures { λ r. ⌜ r ≤ 2 ⌝ }
+    ensures { λ r. ⌜ r ≤ 1 ⌝ }
 {
     let mut positions = position_area();
     match store.count(bytes, entries) {
@@ -84,7 +85,7 @@ fn list_part(
     bytes: &[u8],
     entries: &[u64],
 ) -> u8
-    ensures { λ r. ⌜ r ≤ 2 ⌝ }
+    ensures { λ r. ⌜ r ≤ 1 ⌝ }
 {
     let mut positions = position_area();
     let answer = desk::list(store, lo, hi, from, to, bytes, entries, &mut positions);
@@ -100,7 +101,7 @@ fn answer(
     bytes: &[u8],
     entries: &[u64],
 ) -> u8
-    ensures { λ r. ⌜ r ≤ 2 ⌝ }
+    ensures { λ r. ⌜ r ≤ 1 ⌝ }
 {
     match request {
         Request::Show => rows::show(out, err, store, bytes, entries),
@@ -109,15 +110,15 @@ fn answer(
         Request::ListPart(lo, hi, from, to) => {
             list_part(out, err, store, lo, hi, from, to, bytes, entries)
         }
-        Request::Help => USAGE,
-        Request::NotANumber(_) => USAGE,
-        Request::Wrong => USAGE,
+        Request::Help => REFUSED,
+        Request::NotANumber(_) => REFUSED,
+        Request::Wrong => REFUSED,
     }
 }
 
 // Loads the file and answers from the store.
 fn from_file(out: i32, err: i32, request: Request, path: &[u8]) -> u8
-    ensures { λ r. ⌜ r ≤ 2 ⌝ }
+    ensures { λ r. ⌜ r ≤ 1 ⌝ }
 {
     let fd = os::open_read(path);
     if fd < 0 {
@@ -138,10 +139,10 @@ fn from_file(out: i32, err: i32, request: Request, path: &[u8]) -> u8
     answer(out, err, request, loaded.store, &bytes, &entries)
 }
 
-// Answers a request on the file of a name. What is read and written is the world's, so the contract says only which
-// statuses there are (docs/PROMISES.md).
+// Answers a request on the file of a name. Words that are no request have status 2 and no others have; whether a request is
+// answered or refused is the file's, and the contract leaves it open (docs/PROMISES.md).
 pub fn serve(out: i32, err: i32, request: Request, path: &[u8]) -> u8
-    ensures { λ r. ⌜ r ≤ 2 ⌝ }
+    ensures { λ r. ⌜ Status request r ⌝ }
 {
     match request {
         Request::Help => notices::help(out, err),

@@ -8,7 +8,7 @@ use notices::ANSWERED;
 
 // Writes what waits, and says whether all of it was written.
 fn ended(at: Page, page: &[u8], err: i32) -> u8
-    ensures { λ r. ⌜ r ≤ 2 ⌝ }
+    ensures { λ r. ⌜ r ≤ 1 ⌝ }
 {
     let last = at.written(page);
     if last.failed {
@@ -19,7 +19,7 @@ fn ended(at: Page, page: &[u8], err: i32) -> u8
 
 // One number on a line.
 pub(crate) fn value(out: i32, err: i32, value: u64) -> u8
-    ensures { λ r. ⌜ r ≤ 2 ⌝ }
+    ensures { λ r. ⌜ r ≤ 1 ⌝ }
 {
     let mut space = io::buffer();
     let page: &mut [u8] = &mut space;
@@ -83,7 +83,7 @@ pub(crate) fn list(
     entries: &[u64],
     positions: &[u32],
 ) -> u8
-    ensures { λ r. ⌜ r ≤ 2 ⌝ }
+    ensures { λ r. ⌜ r ≤ 1 ⌝ }
 {
     let mut space = io::large_buffer();
     let page: &mut [u8] = &mut space;
@@ -172,7 +172,7 @@ fn blocks(at: Page, count: usize, values: u64, entries: &[u64], page: &mut [u8])
 }
 
 fn shown(out: i32, err: i32, store: BlockedBitpacker, values: u64, entries: &[u64]) -> u8
-    ensures { λ r. ⌜ r ≤ 2 ⌝ }
+    ensures { λ r. ⌜ r ≤ 1 ⌝ }
 {
     let mut space = io::large_buffer();
     let page: &mut [u8] = &mut space;
@@ -187,7 +187,7 @@ fn shown(out: i32, err: i32, store: BlockedBitpacker, values: u64, entries: &[u6
 
 // How many values there are, whether more can be added, and how they are packed.
 pub(crate) fn show(out: i32, err: i32, store: BlockedBitpacker, bytes: &[u8], entries: &[u64]) -> u8
-    ensures { λ r. ⌜ r ≤ 2 ⌝ }
+    ensures { λ r. ⌜ r ≤ 1 ⌝ }
 {
     match store.count(bytes, entries) {
         Counted::Refused(why) => notices::answer(err, why, store, bytes, entries),

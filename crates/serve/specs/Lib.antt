@@ -1,0 +1,2 @@
+-- Which statuses a request can come to.
+pub mod Status
