@@ -116,7 +116,7 @@ unfolding appendOf
 appended value b n is = by-tests (not (isDigit b)) (leb (2 ^ 64) (value * 10 + digitOf b)) refl refl is
   where
     by-tests : (o l : Bool) → not (isDigit b) ≡ o → leb (2 ^ 64) (value * 10 + digitOf b) ≡ l
-        → cond o (NotADigit 0) (cond l TooLarge (Number (value * 10 + digitOf b))) ≡ Number n
+        → cond o (NotADigit 0 b) (cond l TooLarge (Number (value * 10 + digitOf b))) ≡ Number n
         → Appended value b n
     by-tests true l o-is l-is h = absurd (let z : _≡_ {A = ℕ} 0 1 = cc in omega arith)
     by-tests false true o-is l-is h = absurd (let z : _≡_ {A = ℕ} 0 1 = cc in omega arith)
@@ -129,18 +129,18 @@ unfolding appendOf
 appended-too-large value b is = by-tests (not (isDigit b)) (leb (2 ^ 64) (value * 10 + digitOf b)) refl refl is
   where
     by-tests : (o l : Bool) → not (isDigit b) ≡ o → leb (2 ^ 64) (value * 10 + digitOf b) ≡ l
-        → cond o (NotADigit 0) (cond l TooLarge (Number (value * 10 + digitOf b))) ≡ TooLarge
+        → cond o (NotADigit 0 b) (cond l TooLarge (Number (value * 10 + digitOf b))) ≡ TooLarge
         → (isDigit b ≡ true) × (2 ^ 64 ≤ value * 10 + digitOf b)
     by-tests true l o-is l-is h = absurd (let z : _≡_ {A = ℕ} 0 1 = cc in omega arith)
     by-tests false true o-is l-is h = (not-false _ o-is, leb-true (2 ^ 64) (value * 10 + digitOf b) l-is)
     by-tests false false o-is l-is h = absurd (let z : _≡_ {A = ℕ} 0 1 = cc in omega arith)
 
-pub appended-no-digit : (value b k : ℕ) → appendOf value b ≡ NotADigit k → isDigit b ≡ false
+pub appended-no-digit : (value b k c : ℕ) → appendOf value b ≡ NotADigit k c → isDigit b ≡ false
 unfolding appendOf
-appended-no-digit value b k is = by-tests (not (isDigit b)) (leb (2 ^ 64) (value * 10 + digitOf b)) refl is
+appended-no-digit value b k c is = by-tests (not (isDigit b)) (leb (2 ^ 64) (value * 10 + digitOf b)) refl is
   where
     by-tests : (o l : Bool) → not (isDigit b) ≡ o
-        → cond o (NotADigit 0) (cond l TooLarge (Number (value * 10 + digitOf b))) ≡ NotADigit k → isDigit b ≡ false
+        → cond o (NotADigit 0 b) (cond l TooLarge (Number (value * 10 + digitOf b))) ≡ NotADigit k c → isDigit b ≡ false
     by-tests true l o-is h = not-true _ o-is
     by-tests false true o-is h = absurd (let z : _≡_ {A = ℕ} 0 1 = cc in omega arith)
     by-tests false false o-is h = absurd (let z : _≡_ {A = ℕ} 0 1 = cc in omega arith)
@@ -149,7 +149,7 @@ pub appended-never-empty : (value b : ℕ) → appendOf value b ≡ Empty → �
 unfolding appendOf
 appended-never-empty value b is = by-tests (not (isDigit b)) (leb (2 ^ 64) (value * 10 + digitOf b)) is
   where
-    by-tests : (o l : Bool) → cond o (NotADigit 0) (cond l TooLarge (Number (value * 10 + digitOf b))) ≡ Empty → ⊥
+    by-tests : (o l : Bool) → cond o (NotADigit 0 b) (cond l TooLarge (Number (value * 10 + digitOf b))) ≡ Empty → ⊥
     by-tests true l h = let z : _≡_ {A = ℕ} 0 1 = cc in omega arith
     by-tests false true h = let z : _≡_ {A = ℕ} 0 1 = cc in omega arith
     by-tests false false h = let z : _≡_ {A = ℕ} 0 1 = cc in omega arith
@@ -161,7 +161,7 @@ unfolding byteOf
 byte-of-wrong l b wrong = simp wrong
 
 module _ (l : Line) (b : ℕ) (right : l .wrong ≡ false) where
-  pub byte-after-cr : l .«after_cr» ≡ true → byteOf l b ≡ wrongLine l
+  pub byte-after-cr : l .«after_cr» ≡ true → byteOf l b ≡ wrongLine l 13
   unfolding byteOf
   byte-after-cr cr = simp (right, cr)
 
@@ -169,7 +169,7 @@ module _ (l : Line) (b : ℕ) (right : l .wrong ≡ false) where
   unfolding byteOf
   byte-is-cr no-cr is = simp (right, no-cr, eq-eqb b 13 is)
 
-  pub byte-is-other : l .«after_cr» ≡ false → (b ≡ 13 → ⊥) → isDigit b ≡ false → byteOf l b ≡ wrongLine l
+  pub byte-is-other : l .«after_cr» ≡ false → (b ≡ 13 → ⊥) → isDigit b ≡ false → byteOf l b ≡ wrongLine l b
   unfolding byteOf
   byte-is-other no-cr differs other = simp (right, no-cr, ne-eqb b 13 differs, other)
 
@@ -178,30 +178,30 @@ module _ (l : Line) (b : ℕ) (right : l .wrong ≡ false) where
   byte-is-digit no-cr digit = simp (right, no-cr, ne-eqb b 13 (λ is. omega (arith, range-of-digit b digit .0)), digit)
 
   pub byte-fits : l .«after_cr» ≡ false → isDigit b ≡ true → l .value * 10 + digitOf b < 2 ^ 64
-      → byteOf l b ≡ lineOf ((l .digits + 1) % 2 ^ 64) (cond (l .«too_large») 0 (l .value * 10 + digitOf b)) (l .«too_large») false false
+      → byteOf l b ≡ lineOf ((l .digits + 1) % 2 ^ 64) (cond (l .«too_large») 0 (l .value * 10 + digitOf b)) (l .«too_large») false false 0
   byte-fits no-cr digit small =
       byte-is-digit no-cr digit ∙ by-large (l .«too_large») (leb (2 ^ 64) (l .value * 10 + digitOf b)) (lt-leb (2 ^ 64) _ small)
     where
       by-large : (large more : Bool) → more ≡ false
-          → lineOf ((l .digits + 1) % 2 ^ 64) (cond (large || more) 0 (l .value * 10 + digitOf b)) (large || more) false false
-          ≡ lineOf ((l .digits + 1) % 2 ^ 64) (cond large 0 (l .value * 10 + digitOf b)) large false false
+          → lineOf ((l .digits + 1) % 2 ^ 64) (cond (large || more) 0 (l .value * 10 + digitOf b)) (large || more) false false 0
+          ≡ lineOf ((l .digits + 1) % 2 ^ 64) (cond large 0 (l .value * 10 + digitOf b)) large false false 0
       by-large true more is = refl
-      by-large false more is = ap (λ t. lineOf ((l .digits + 1) % 2 ^ 64) (cond t 0 (l .value * 10 + digitOf b)) t false false) is
+      by-large false more is = ap (λ t. lineOf ((l .digits + 1) % 2 ^ 64) (cond t 0 (l .value * 10 + digitOf b)) t false false 0) is
 
   pub byte-too-large : l .«after_cr» ≡ false → isDigit b ≡ true → 2 ^ 64 ≤ l .value * 10 + digitOf b
-      → byteOf l b ≡ lineOf ((l .digits + 1) % 2 ^ 64) 0 true false false
+      → byteOf l b ≡ lineOf ((l .digits + 1) % 2 ^ 64) 0 true false false 0
   byte-too-large no-cr digit large =
       byte-is-digit no-cr digit ∙ by-large (l .«too_large») (leb (2 ^ 64) (l .value * 10 + digitOf b)) (le-leb (2 ^ 64) _ large)
     where
       by-large : (large more : Bool) → more ≡ true
-          → lineOf ((l .digits + 1) % 2 ^ 64) (cond (large || more) 0 (l .value * 10 + digitOf b)) (large || more) false false
-          ≡ lineOf ((l .digits + 1) % 2 ^ 64) 0 true false false
+          → lineOf ((l .digits + 1) % 2 ^ 64) (cond (large || more) 0 (l .value * 10 + digitOf b)) (large || more) false false 0
+          ≡ lineOf ((l .digits + 1) % 2 ^ 64) 0 true false false 0
       by-large true more is = refl
-      by-large false more is = ap (λ t. lineOf ((l .digits + 1) % 2 ^ 64) (cond t 0 (l .value * 10 + digitOf b)) t false false) is
+      by-large false more is = ap (λ t. lineOf ((l .digits + 1) % 2 ^ 64) (cond t 0 (l .value * 10 + digitOf b)) t false false 0) is
 
 -- ---- what a line's end says
 
-pub ended-wrong : (l : Line) → l .wrong ≡ true → endedOf l ≡ NotADigit (l .digits)
+pub ended-wrong : (l : Line) → l .wrong ≡ true → endedOf l ≡ NotADigit (l .digits) (l .other)
 unfolding endedOf
 ended-wrong l wrong = simp wrong
 

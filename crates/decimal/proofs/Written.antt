@@ -102,7 +102,7 @@ unfolding readOf numberOrTooLarge
 reads text n is = by-tests (eqb (length text) 0) (ltb (firstOther text) (length text)) (leb (2 ^ 64) (numeral text)) refl is
   where
     by-tests : (e o l : Bool) → ltb (firstOther text) (length text) ≡ o
-        → cond e Empty (cond o (NotADigit (firstOther text)) (cond l TooLarge (Number (numeral text)))) ≡ Number n → Reads text n
+        → cond e Empty (cond o (NotADigit (firstOther text) (getD text (firstOther text) 0)) (cond l TooLarge (Number (numeral text)))) ≡ Number n → Reads text n
     by-tests true o l o-is h = absurd (let z : _≡_ {A = ℕ} 0 1 = cc in omega arith)
     by-tests false true l o-is h = absurd (let z : _≡_ {A = ℕ} 0 1 = cc in omega arith)
     by-tests false false true o-is h = absurd (let z : _≡_ {A = ℕ} 0 1 = cc in omega arith)

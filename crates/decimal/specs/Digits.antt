@@ -4,7 +4,7 @@ use Prim.Native.Nat.{ℕ, suc, _+_, _-_, _*_, _^_}
 use mathlib.Core.Bool.{Bool, not, _&&_, cond}
 use mathlib.Core.List.{List, [], _∷_}
 use lib.Dec.{leb, ltb, eqb}
-use lib.ListN.{length}
+use lib.ListN.{length, getD}
 use Rattle.refusal.specs.First.{check, firstThatHolds}
 use Rattle.decimal.specs.declared.Numeral.{Numeral}
 use Rattle.decimal.specs.declared.Numeral.the-variants.{Number, Empty, NotADigit, TooLarge}
@@ -30,7 +30,7 @@ numeral (b ∷ bs) = digitOf b * 10 ^ length bs + numeral bs
 unfoldable pub appendOf : ℕ → ℕ → Numeral
 appendOf value b =
     let number = value * 10 + digitOf b in
-    firstThatHolds (check (not (isDigit b)) (NotADigit 0) ∷ check (leb (2 ^ 64) number) TooLarge ∷ []) (Number number)
+    firstThatHolds (check (not (isDigit b)) (NotADigit 0 b) ∷ check (leb (2 ^ 64) number) TooLarge ∷ []) (Number number)
 
 unfoldable pub numberOrTooLarge : List ℕ → Numeral
 numberOrTooLarge text = firstThatHolds (check (leb (2 ^ 64) (numeral text)) TooLarge ∷ []) (Number (numeral text))
@@ -39,5 +39,5 @@ numberOrTooLarge text = firstThatHolds (check (leb (2 ^ 64) (numeral text)) TooL
 unfoldable pub readOf : List ℕ → Numeral
 readOf text =
     firstThatHolds
-    (check (eqb (length text) 0) Empty ∷ check (ltb (firstOther text) (length text)) (NotADigit (firstOther text)) ∷ [])
+    (check (eqb (length text) 0) Empty ∷ check (ltb (firstOther text) (length text)) (NotADigit (firstOther text) (getD text (firstOther text) 0)) ∷ [])
     (numberOrTooLarge text)

@@ -6,11 +6,11 @@ ghost use mathlib.Core.Path.{_≡_};
 ghost use lib.ListN.{length};
 ghost use Rattle.decimal.specs.Digits.{isDigit, firstOther, appendOf, numberOrTooLarge, readOf};
 
-// The number, or the first thing that is wrong.
+// The number, or the first thing that is wrong: of a byte that is no digit, its place and which it is.
 pub enum Numeral {
     Number(u64),
     Empty,
-    NotADigit(usize),
+    NotADigit(usize, u8),
     TooLarge,
 }
 
@@ -42,7 +42,7 @@ pub fn append(value: u64, byte: u8) -> Numeral
     ensures { λ r. ⌜ r ≡ appendOf value byte ⌝ }
 {
     if !is_digit(byte) {
-        return Numeral::NotADigit(0);
+        return Numeral::NotADigit(0, byte);
     }
     if value > u64::MAX / 10 {
         return Numeral::TooLarge;
@@ -67,7 +67,7 @@ fn number(text: &[u8]) -> Numeral
             Numeral::Number(more) => {
                 value = more;
             }
-            Numeral::NotADigit(_) => return Numeral::TooLarge,
+            Numeral::NotADigit(_, _) => return Numeral::TooLarge,
             Numeral::Empty => return Numeral::TooLarge,
             Numeral::TooLarge => return Numeral::TooLarge,
         }
@@ -85,7 +85,7 @@ pub fn read(text: &[u8]) -> Numeral
     }
     let other = first_other(text);
     if other < text.len() {
-        return Numeral::NotADigit(other);
+        return Numeral::NotADigit(other, text[other]);
     }
     number(text)
 }

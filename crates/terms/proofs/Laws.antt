@@ -1,6 +1,6 @@
 -- What the checks of the definitions come to where they hold, and where they do not; and what is left of a text after a byte of it.
 use mathlib.Core.Path.{_≡_, refl, sym, ap, ap₂, _∙_}
-use mathlib.Core.Bool.{Bool, true, false, cond}
+use mathlib.Core.Bool.{Bool, true, false, _&&_, cond}
 use mathlib.Core.List.{List, [], _∷_}
 use Prim.Native.Nat.{ℕ, _+_, _*_, _≤_, _<_}
 use native.Mathlib.Numerals.{add-one}
@@ -18,13 +18,13 @@ use Rattle.blocked_bitpacker.specs.Store.{blockLimit, damagedStore}
 use Rattle.blocked_bitpacker.specs.Calls.{changed, refusedCall, addOf, countedOf}
 use Rattle.decimal.specs.declared.Numeral.{Numeral}
 use Rattle.decimal.specs.declared.line.Line.{Line}
-use Rattle.decimal.specs.Line.{byteOf, endedOf, cutOf}
+use Rattle.decimal.specs.Line.{byteOf, endedOf}
 use Rattle.terms.specs.declared.Trouble.{Trouble}
-use Rattle.terms.specs.declared.Trouble.the-variants.{Nothing, Empty, NotADigit, TooLarge, Refused}
+use Rattle.terms.specs.declared.Trouble.the-variants.{Nothing, Empty, NotADigit, TooLarge, Refused, Cut, NoLine}
 use Rattle.terms.specs.declared.Loading.{Loading}
 use Rattle.terms.specs.declared.Loaded.{Loaded}
 use Rattle.terms.specs.Loading.{addLineOf, isTrouble, loadingOf, Taken, taken, saidOf, nextOf, bytesOf}
-use Rattle.terms.specs.Loading.{begun, ended, endedWith, nothingRead, endOf}
+use Rattle.terms.specs.Loading.{begun, stoppedBy, loadedBy, nothingRead, endOf}
 
 -- ---- one number
 
@@ -80,8 +80,9 @@ pub same-said : (ld : Loading) {numeral numeral' : Numeral} (bytes entries : Lis
     → saidOf ld numeral bytes entries ≡ saidOf ld numeral' bytes entries
 same-said ld bytes entries e = ap (λ numeral. saidOf ld numeral bytes entries) e
 
-pub same-ended : {r r' : Loaded} (bytes entries : List ℕ) → r ≡ r' → ended r bytes entries ≡ ended r' bytes entries
-same-ended bytes entries e = ap (λ r. ended r bytes entries) e
+-- what a loading that was handed on says of itself
+pub same-loaded : {r : Loaded} {ld ld' : Loading} → r ≡ loadedBy ld → ld ≡ ld' → r ≡ loadedBy ld'
+same-loaded r e = r ∙ ap loadedBy e
 
 pub same-begun : (s : BlockedBitpacker) (bytes : List ℕ) {line line' : Line} {trouble trouble' : Trouble} → line ≡ line' → trouble ≡ trouble'
     → begun (loadingOf s 0 line trouble) bytes ≡ begun (loadingOf s 0 line' trouble') bytes
@@ -105,9 +106,11 @@ withLine ld line = loadingOf (ld .store) (ld .lines) line (ld .trouble)
 pub no-trouble : (trouble : Trouble) → isTrouble trouble ≡ false → trouble ≡ Nothing
 no-trouble Nothing none = refl
 no-trouble Empty none = absurd (let z : _≡_ {A = ℕ} 0 1 = cc in omega arith)
-no-trouble (NotADigit place) none = absurd (let z : _≡_ {A = ℕ} 0 1 = cc in omega arith)
+no-trouble (NotADigit place b) none = absurd (let z : _≡_ {A = ℕ} 0 1 = cc in omega arith)
 no-trouble TooLarge none = absurd (let z : _≡_ {A = ℕ} 0 1 = cc in omega arith)
 no-trouble (Refused why) none = absurd (let z : _≡_ {A = ℕ} 0 1 = cc in omega arith)
+no-trouble Cut none = absurd (let z : _≡_ {A = ℕ} 0 1 = cc in omega arith)
+no-trouble NoLine none = absurd (let z : _≡_ {A = ℕ} 0 1 = cc in omega arith)
 
 module _ (ld : Loading) (bytes entries : List ℕ) where
   next-feed : (b : ℕ) → isTrouble (ld .trouble) ≡ false → b ≡ 10 → nextOf ld b bytes entries ≡ saidOf ld (endedOf (ld .line)) bytes entries
@@ -194,16 +197,35 @@ module _ (ld₀ : Loading) (text bytes₀ entries₀ : List ℕ) where
 
 -- ---- the end of a text
 
-module _ (ld : Loading) (bytes entries : List ℕ) where
-  pub end-troubled : isTrouble (ld .trouble) ≡ true → endedWith (taken ld bytes entries) ≡ endOf ld bytes entries
+-- where something was read of a line, two of the checks do not hold
+pub past-line : {A : Type 0} (a b rest : A) (troubled nothing none : Bool) → troubled ≡ false → nothing ≡ false
+    → cond troubled a (cond (nothing && none) b (cond nothing a rest)) ≡ rest
+past-line a b rest troubled nothing none going something = simp (going, something)
+
+module _ (ld : Loading) where
+  pub end-troubled : isTrouble (ld .trouble) ≡ true → loadedBy ld ≡ endOf ld
   unfolding endOf
   end-troubled troubled = sym (simp troubled)
 
-  pub end-after-feed : isTrouble (ld .trouble) ≡ false → nothingRead (ld .line) ≡ true → endedWith (taken ld bytes entries) ≡ endOf ld bytes entries
-  unfolding endOf
-  end-after-feed untroubled nothing = sym (simp (untroubled, nothing))
+  module _ (untroubled : isTrouble (ld .trouble) ≡ false) where
+    pub end-without-line : nothingRead (ld .line) ≡ true → ld .lines ≡ 0 → loadedBy (stoppedBy NoLine ld) ≡ endOf ld
+    unfolding endOf
+    end-without-line nothing none = sym (simp (untroubled, nothing, eq-eqb (ld .lines) 0 none))
 
-  pub end-in-line : isTrouble (ld .trouble) ≡ false → nothingRead (ld .line) ≡ false
-      → endedWith (saidOf ld (cutOf (ld .line)) bytes entries) ≡ endOf ld bytes entries
-  unfolding endOf
-  end-in-line untroubled something = sym (simp (untroubled, something))
+    pub end-after-feed : nothingRead (ld .line) ≡ true → (ld .lines ≡ 0 → ⊥) → loadedBy ld ≡ endOf ld
+    unfolding endOf
+    end-after-feed nothing some = sym (simp (untroubled, nothing, ne-eqb (ld .lines) 0 some))
+
+    module _ (something : nothingRead (ld .line) ≡ false) where
+      abbrev behind : Bool → Loaded
+      behind wrong = cond wrong (loadedBy (stoppedBy (NotADigit (ld .line .digits) (ld .line .other)) ld)) (loadedBy (stoppedBy Cut ld))
+
+      in-a-line : behind (ld .line .wrong) ≡ endOf ld
+      unfolding endOf
+      in-a-line = sym (past-line _ _ (behind (ld .line .wrong)) _ _ (eqb (ld .lines) 0) untroubled something)
+
+      pub end-in-wrong-line : ld .line .wrong ≡ true → loadedBy (stoppedBy (NotADigit (ld .line .digits) (ld .line .other)) ld) ≡ endOf ld
+      end-in-wrong-line wrong = ap behind (sym wrong) ∙ in-a-line
+
+      pub end-in-line : ld .line .wrong ≡ false → loadedBy (stoppedBy Cut ld) ≡ endOf ld
+      end-in-line right = ap behind (sym right) ∙ in-a-line

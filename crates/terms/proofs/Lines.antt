@@ -1,12 +1,12 @@
--- The first line of a text: what stands before its first line feed, without the carriage return that belongs to that end; or the whole text,
--- where no line feed is in it.
+-- The first line of a text: what stands before its first line feed, without the carriage return that belongs to that end. Where no line feed
+-- is in it, it has no line, and all of it is what follows the last one.
 use Prim.Native.Nat.{ℕ}
 use mathlib.Core.Path.{_≡_, refl, ap, _∙_}
-use mathlib.Core.Bool.{Bool, true, false, cond, and-false}
+use mathlib.Core.Bool.{Bool, true, false, _||_, cond, and-false, or-true}
 use mathlib.Core.List.{List, [], _∷_, _++_}
 use lib.Dec.{eqb}
 use Rattle.decimal.specs.Line.{withoutCr}
-use Rattle.terms.specs.Text.{startsWithFeed, inFirst, linesOf}
+use Rattle.terms.specs.Text.{startsWithFeed, inFirst, linesOf, hasFeed, restOf}
 
 -- No byte is a line feed.
 abbrev pub NoFeed : List ℕ → Type 0
@@ -37,7 +37,33 @@ first-line (c ∷ []) b rest none feed = by-return (eqb c 13) refl
 first-line (c ∷ d ∷ ds) b rest none feed =
     inside-line c (d ∷ ds ++ b ∷ rest) (none .0) (none .1 .0) ∙ ap (inFirst c) (first-line (d ∷ ds) b rest (none .1) feed)
 
-pub last-line : (b : ℕ) (bs : List ℕ) → NoFeed (b ∷ bs) → linesOf (b ∷ bs) ≡ (b ∷ bs) ∷ []
+-- ---- where no line feed is
+
+pub no-line : (bs : List ℕ) → NoFeed bs → linesOf bs ≡ []
 unfolding linesOf
-last-line b [] none = inside-line b [] (none .0) refl
-last-line b (c ∷ cs) none = inside-line b (c ∷ cs) (none .0) (none .1 .0) ∙ ap (inFirst b) (last-line c cs (none .1))
+no-line [] none = refl
+no-line (b ∷ []) none = inside-line b [] (none .0) refl
+no-line (b ∷ c ∷ cs) none = inside-line b (c ∷ cs) (none .0) (none .1 .0) ∙ ap (inFirst b) (no-line (c ∷ cs) (none .1))
+
+no-feed : (bs : List ℕ) → NoFeed bs → hasFeed bs ≡ false
+unfolding hasFeed
+no-feed [] none = refl
+no-feed (b ∷ bs) none = simp (none .0, no-feed bs (none .1))
+
+pub all-rest : (bs : List ℕ) → NoFeed bs → restOf bs ≡ bs
+unfolding restOf
+all-rest [] none = refl
+all-rest (b ∷ bs) none = ap (λ t. cond t (restOf bs) (b ∷ bs)) (no-feed (b ∷ bs) none)
+
+-- ---- behind a line feed
+
+has-feed : (line : List ℕ) (b : ℕ) (rest : List ℕ) → eqb b 10 ≡ true → hasFeed (line ++ b ∷ rest) ≡ true
+unfolding hasFeed
+has-feed [] b rest feed = simp feed
+has-feed (c ∷ cs) b rest feed = ap (λ t. eqb c 10 || t) (has-feed cs b rest feed) ∙ or-true (eqb c 10)
+
+pub rest-behind : (line : List ℕ) (b : ℕ) (rest : List ℕ) → eqb b 10 ≡ true → restOf (line ++ b ∷ rest) ≡ restOf rest
+unfolding restOf
+rest-behind [] b rest feed = ap (λ t. cond t (restOf rest) (b ∷ rest)) (has-feed [] b rest feed)
+rest-behind (c ∷ cs) b rest feed =
+    ap (λ t. cond t (restOf (cs ++ b ∷ rest)) (c ∷ cs ++ b ∷ rest)) (has-feed (c ∷ cs) b rest feed) ∙ rest-behind cs b rest feed

@@ -1,12 +1,13 @@
 -- However a text is cut, taking its pieces and ending is what the whole text leads to: pieces are taken as the joined text is, byte by byte;
 -- a line that the bytes have come to is what its state says at its end; and so line by line.
-use Prim.Native.Nat.{ℕ, _+_, _^_, _<_}
+use Prim.Native.Nat.{ℕ, _+_, _%_, _^_, _≤_, _<_}
 use mathlib.Core.Path.{_≡_, refl, sym, ap, ap₂, _∙_}
-use mathlib.Core.Bool.{Bool, true, false, not, _&&_, cond, false≢true}
+use mathlib.Core.Bool.{Bool, true, false, not, _&&_, cond}
 use mathlib.Core.List.{List, [], _∷_, _++_, append-nil, append-assoc}
 use native.Mathlib.Nat.{mod-eq-of-lt}
 use native.Mathlib.Omega.{arith}
-use lib.Dec.{eqb, ltb, leb, eqb·suc-zero}
+use borrow.Author.Tests.{ne-eqb}
+use lib.Dec.{eqb}
 use lib.ListN.{length, length-append}
 use Rattle.blocked_bitpacker.specs.declared.Done.{Done}
 use Rattle.blocked_bitpacker.specs.declared.Done.the-variants.{Accepted, Refused as NotDone}
@@ -14,19 +15,20 @@ use Rattle.blocked_bitpacker.specs.Calls.{newOf}
 use Rattle.decimal.specs.declared.Numeral.{Numeral}
 use Rattle.decimal.specs.declared.Numeral.the-variants.{Number, Empty as EmptyLine, NotADigit as OtherByte, TooLarge as LargeNumber}
 use Rattle.decimal.specs.declared.line.Line.{Line}
-use Rattle.decimal.specs.Digits.{firstOther, numeral, numberOrTooLarge, readOf}
-use Rattle.decimal.specs.Line.{newLine, bytesOf as lineBytesOf, endedOf, cutOf}
-use Rattle.decimal.proofs.Bytewise.{bytes-append as line-append, an-ended-line-is-read, a-cut-line-is-read}
+use Rattle.decimal.specs.Digits.{isDigit, digitOf}
+use Rattle.decimal.specs.Line.{newLine, wrongLine, crLine, digitLine, byteOf, bytesOf as lineBytesOf, endedOf}
+use Rattle.decimal.proofs.Bytewise.{bytes-append as line-append, an-ended-line-is-read}
 use Rattle.promises.specs.Defined.{Held, held}
 use Rattle.promises.specs.Histories.{begun}
 use Rattle.terms.specs.declared.Trouble.{Trouble}
-use Rattle.terms.specs.declared.Trouble.the-variants.{Nothing, Empty, NotADigit, TooLarge, Refused}
+use Rattle.terms.specs.declared.Trouble.the-variants.{Nothing, Empty, NotADigit, TooLarge, Refused, Cut, NoLine}
 use Rattle.terms.specs.declared.Loading.{Loading}
 use Rattle.terms.specs.Loading.{isTrouble, troubleOf, loadingOf, stoppedBy, answeredBy, Taken, taken, saidOf, nextOf, bytesOf, beginOf, Ended, ended, loadedOf, endedWith, nothingRead, endOf}
-use Rattle.terms.specs.Text.{linesOf, stop, afterAnswer, afterLine, loadLines, onNew, loadOf, joined, piecesOf, startOf, endingOf, ThePiecesMakeTheText}
+use Rattle.terms.specs.Text.{linesOf, restOf, stop, withoutEnd, afterAnswer, afterLine, loadLines, onNew, loadOf, joined, piecesOf, startOf, endingOf, ThePiecesMakeTheText}
 use Rattle.terms.proofs.Settled.{endsAfter, ends-as-stopped}
+use Rattle.terms.proofs.Laws.{past-line}
 use Rattle.terms.proofs.Adding.{addLineIn, refused-keeps}
-use Rattle.terms.proofs.Lines.{NoFeed, no-feed-more, first-line, last-line}
+use Rattle.terms.proofs.Lines.{NoFeed, no-feed-more, first-line, no-line, all-rest, rest-behind}
 
 -- ---- pieces are as good as the text
 
@@ -80,54 +82,63 @@ module _ (h : Held) (lines : ℕ) (line : Line) (short : lines + 1 < 2 ^ 64) (fi
   unfolding saidOf
   said (Number v) = answered v (addLineIn h v .stored .done) refl
   said EmptyLine = stops Empty refl
-  said (OtherByte place) = stops (NotADigit place) refl
+  said (OtherByte place b) = stops (NotADigit place b) refl
   said LargeNumber = stops TooLarge refl
 
 -- ---- at the end of the text
 
--- what has a byte is not read as empty
-not-empty : (b : ℕ) (bs : List ℕ) → readOf (b ∷ bs) ≡ EmptyLine → ⊥
-unfolding readOf numberOrTooLarge
-not-empty b bs is =
-    by-tests (ltb (firstOther (b ∷ bs)) (length (b ∷ bs))) (leb (2 ^ 64) (numeral (b ∷ bs))) (simp (eqb·suc-zero (length bs)) at is)
+-- of a byte something is known, and of all bytes after it
+something-known : (l : Line) (b : ℕ) → l .digits + 1 < 2 ^ 64 → (nothingRead (byteOf l b) ≡ false) × (byteOf l b .digits ≤ l .digits + 1)
+unfolding byteOf
+something-known l b few = by-tests (l .wrong) (l .«after_cr») (eqb b 13) (isDigit b) refl
   where
-    by-tests : (other large : Bool)
-        → cond other (OtherByte (firstOther (b ∷ bs))) (cond large LargeNumber (Number (numeral (b ∷ bs)))) ≡ EmptyLine → ⊥
-    by-tests true large h = let z : _≡_ {A = ℕ} 0 1 = cc in omega arith
-    by-tests false true h = let z : _≡_ {A = ℕ} 0 1 = cc in omega arith
-    by-tests false false h = let z : _≡_ {A = ℕ} 0 1 = cc in omega arith
+    by-tests : (wrong cr return digit : Bool) → l .wrong ≡ wrong
+        → let m =
+        cond wrong l (cond cr (wrongLine l 13) (cond return (crLine l) (cond (not digit) (wrongLine l b) (digitLine l (digitOf b))))) in
+        (nothingRead m ≡ false) × (m .digits ≤ l .digits + 1)
+    by-tests true cr return digit is = (ap (λ t. not t && not (l .«after_cr») && eqb (l .digits) 0) is, omega arith)
+    by-tests false true return digit is = (refl, omega arith)
+    by-tests false false true digit is = (refl, omega arith)
+    by-tests false false false false is = (refl, omega arith)
+    by-tests false false false true is =
+        let counted : (l .digits + 1) % 2 ^ 64 ≡ l .digits + 1 = mod-eq-of-lt few in
+        (ne-eqb ((l .digits + 1) % 2 ^ 64) 0 (λ none. omega (arith, counted, none)), omega (arith, counted))
 
--- and a line of which nothing was read is
-reads-empty : (l : Line) → nothingRead l ≡ true → cutOf l ≡ EmptyLine
-unfolding cutOf endedOf
-reads-empty l = by-fields (l .wrong) (l .«after_cr») (eqb (l .digits) 0) (cond (l .«too_large») LargeNumber (Number (l .value)))
-  where
-    by-fields : (wrong cr none : Bool) (number : Numeral) → (not wrong && not cr && none) ≡ true
-        → cond cr (OtherByte (l .digits)) (cond wrong (OtherByte (l .digits)) (cond none EmptyLine number)) ≡ EmptyLine
-    by-fields true cr none number is = absurd (false≢true is)
-    by-fields false true none number is = absurd (false≢true is)
-    by-fields false false true number is = refl
-    by-fields false false false number is = absurd (false≢true is)
+something-read : (l : Line) (b : ℕ) (bs : List ℕ) → l .digits + length (b ∷ bs) < 2 ^ 64 → nothingRead (lineBytesOf l (b ∷ bs)) ≡ false
+unfolding lineBytesOf
+something-read l b [] few = something-known l b (omega arith) .0
+something-read l b (c ∷ cs) few = something-read (byteOf l b) c cs (omega (arith, something-known l b (omega arith) .1))
 
-something-read : (b : ℕ) (bs : List ℕ) → length (b ∷ bs) < 2 ^ 64 → nothingRead (lineBytesOf newLine (b ∷ bs)) ≡ false
-something-read b bs few = by-flag (nothingRead (lineBytesOf newLine (b ∷ bs))) refl
-  where
-    by-flag : (nothing : Bool) → nothingRead (lineBytesOf newLine (b ∷ bs)) ≡ nothing → nothing ≡ false
-    by-flag true is = absurd (not-empty b bs (sym (a-cut-line-is-read (b ∷ bs) few) ∙ reads-empty (lineBytesOf newLine (b ∷ bs)) is))
-    by-flag false is = refl
+-- what a line without its end comes to
+module _ (h : Held) (lines : ℕ) (line : Line) (read : nothingRead line ≡ false) where
+  ends-without : endingOf (going h lines line) ≡ withoutEnd (endedOf line) lines h
+  unfolding endOf endedOf
+  ends-without =
+      ap (λ r. ended r (h .bytes) (h .entries)) (past-line _ _ _ false (nothingRead line) (eqb lines 0) refl read)
+      ∙ by-fields (line .wrong) (eqb (line .digits) 0) (line .«too_large»)
+    where
+      by-fields : (wrong none large : Bool)
+          → ended (cond wrong (stop (NotADigit (line .digits) (line .other)) lines h .loaded) (stop Cut lines h .loaded)) (h .bytes) (h .entries)
+          ≡ withoutEnd (cond wrong (OtherByte (line .digits) (line .other)) (cond none EmptyLine (cond large LargeNumber (Number (line .value))))) lines h
+      by-fields true none large = refl
+      by-fields false true large = refl
+      by-fields false false true = refl
+      by-fields false false false = refl
 
--- the line that the text's end cuts
 ends-cut : (line : List ℕ) (lines : ℕ) (h : Held) → NoFeed line → lines + length line < 2 ^ 64
-    → endingOf (going h lines (lineBytesOf newLine line)) ≡ loadLines (linesOf line) lines h
-unfolding endOf loadLines linesOf lineBytesOf
-ends-cut [] lines h none few = refl
+    → endingOf (going h lines (lineBytesOf newLine line)) ≡ loadLines (restOf line) (linesOf line) lines h
+unfolding endOf loadLines linesOf restOf lineBytesOf
+ends-cut [] lines h none few = by-count (eqb lines 0)
+  where
+    by-count : (no-line : Bool)
+        → ended (cond no-line (stop NoLine lines h .loaded) (stop Nothing lines h .loaded)) (h .bytes) (h .entries)
+        ≡ stop (cond no-line NoLine Nothing) lines h
+    by-count true = refl
+    by-count false = refl
 ends-cut (b ∷ bs) lines h none few =
-    let state = lineBytesOf newLine (b ∷ bs) in
-    let ends : endingOf (going h lines state) ≡ endedWith (saidBy (going h lines state) (cutOf state)) = simp (something-read b bs (omega arith)) in
-    ends
-    ∙ said h lines state (omega arith) endedWith (loadLines []) (λ t stopped. refl) (λ k. refl) (cutOf state)
-    ∙ ap (λ q. afterLine q lines h (loadLines [])) (a-cut-line-is-read (b ∷ bs) (omega arith))
-    ∙ ap (λ ls. loadLines ls lines h) (sym (last-line b bs none))
+    ends-without h lines (lineBytesOf newLine (b ∷ bs)) (something-read newLine b bs (omega arith))
+    ∙ ap (λ q. withoutEnd q lines h) (an-ended-line-is-read (b ∷ bs) (omega arith))
+    ∙ sym (ap₂ (λ rest ls. loadLines rest ls lines h) (all-rest (b ∷ bs) none) (no-line (b ∷ bs) none))
 
 -- ---- byte by byte
 
@@ -135,7 +146,7 @@ ends-cut (b ∷ bs) lines h none few =
 abbrev ComesTo : List ℕ → Type 0
 ComesTo text =
     (line : List ℕ) (lines : ℕ) (h : Held) → NoFeed line → lines + length line + length text < 2 ^ 64
-    → endsAfter text (going h lines (lineBytesOf newLine line)) ≡ loadLines (linesOf (line ++ text)) lines h
+    → endsAfter text (going h lines (lineBytesOf newLine line)) ≡ loadLines (restOf (line ++ text)) (linesOf (line ++ text)) lines h
 
 module _ (b : ℕ) (bs : List ℕ) (rest : ComesTo bs) where
   abbrev nextAfter : Taken → Taken
@@ -145,12 +156,12 @@ module _ (b : ℕ) (bs : List ℕ) (rest : ComesTo bs) where
   unfolding bytesOf nextOf loadLines lineBytesOf
   at-feed feed line lines h none few =
       let state = lineBytesOf newLine line in
-      let next = loadLines (linesOf bs) in
+      let next = loadLines (restOf bs) (linesOf bs) in
       let ends : nextAfter (going h lines state) ≡ saidBy (going h lines state) (endedOf state) = simp feed in
       ap (endsAfter bs) ends
       ∙ said h lines state (omega arith) (endsAfter bs) next (λ t. ends-as-stopped t bs) (λ k. rest [] (lines + 1) k tt (omega arith)) (endedOf state)
       ∙ ap (λ q. afterLine q lines h next) (an-ended-line-is-read line (omega arith))
-      ∙ ap (λ ls. loadLines ls lines h) (sym (first-line line b bs none feed))
+      ∙ sym (ap₂ (λ left ls. loadLines left ls lines h) (rest-behind line b bs feed) (first-line line b bs none feed))
 
   at-byte : eqb b 10 ≡ false → ComesTo (b ∷ bs)
   unfolding bytesOf nextOf lineBytesOf
@@ -160,15 +171,15 @@ module _ (b : ℕ) (bs : List ℕ) (rest : ComesTo bs) where
       simp (other, line-append newLine line (b ∷ [])) in
       ap (endsAfter bs) grows
       ∙ rest more lines h (no-feed-more line b none other) (omega (arith, length-append line (b ∷ [])))
-      ∙ ap (λ l. loadLines (linesOf l) lines h) (append-assoc line (b ∷ []) bs)
+      ∙ ap (λ l. loadLines (restOf l) (linesOf l) lines h) (append-assoc line (b ∷ []) bs)
 
 comes-to : (text : List ℕ) → ComesTo text
 unfolding bytesOf
-comes-to [] line lines h none few = ends-cut line lines h none (omega arith) ∙ ap (λ l. loadLines (linesOf l) lines h) (sym (append-nil line))
+comes-to [] line lines h none few = ends-cut line lines h none (omega arith) ∙ ap (λ l. loadLines (restOf l) (linesOf l) lines h) (sym (append-nil line))
 comes-to (b ∷ bs) line lines h none few = by-byte (eqb b 10) refl (comes-to bs)
   where
     by-byte : (feed : Bool) → eqb b 10 ≡ feed → ComesTo bs
-        → endsAfter (b ∷ bs) (going h lines (lineBytesOf newLine line)) ≡ loadLines (linesOf (line ++ b ∷ bs)) lines h
+        → endsAfter (b ∷ bs) (going h lines (lineBytesOf newLine line)) ≡ loadLines (restOf (line ++ b ∷ bs)) (linesOf (line ++ b ∷ bs)) lines h
     by-byte true feed rest = at-feed b bs rest feed line lines h none few
     by-byte false other rest = at-byte b bs rest other line lines h none few
 
@@ -181,7 +192,7 @@ from-start text bytes entries few = by-answer (newOf bytes .stored .done)
     fresh : Trouble → Taken
     fresh trouble = taken (loadingOf (newOf bytes .stored .store) 0 newLine trouble) (newOf bytes .bytes) entries
 
-    by-answer : (done : Done) → endsAfter text (fresh (troubleOf done)) ≡ onNew (troubleOf done) (linesOf text) (begun bytes entries)
+    by-answer : (done : Done) → endsAfter text (fresh (troubleOf done)) ≡ onNew done text (begun bytes entries)
     by-answer Accepted = comes-to text [] 0 (begun bytes entries) tt (omega arith)
     by-answer (NotDone why) = ends-as-stopped (fresh (Refused why)) text refl
 

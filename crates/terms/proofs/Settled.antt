@@ -7,7 +7,7 @@ use mathlib.Core.List.{List, [], _∷_}
 use lib.Dec.{eqb}
 use Rattle.decimal.specs.declared.Numeral.the-variants.{NotADigit as OtherByte}
 use Rattle.decimal.specs.declared.line.Line.{Line}
-use Rattle.decimal.specs.Line.{byteOf, endedOf, cutOf}
+use Rattle.decimal.specs.Line.{byteOf, endedOf}
 use Rattle.terms.specs.declared.Trouble.the-variants.{NotADigit}
 use Rattle.terms.specs.declared.Loading.{Loading}
 use Rattle.terms.specs.Loading.{isTrouble, stoppedBy, Taken, taken, saidOf, nextOf, bytesOf, Ended, endedWith, endOf}
@@ -42,25 +42,17 @@ ends-as-stopped t text stopped = ap endingOf (stays-stopped (t .loading) text (t
 
 -- ---- in a line in which something is wrong
 
-wrong-ended : (l : Line) → l .wrong ≡ true → endedOf l ≡ OtherByte (l .digits)
+wrong-ended : (l : Line) → l .wrong ≡ true → endedOf l ≡ OtherByte (l .digits) (l .other)
 unfolding endedOf
 wrong-ended l wrong = simp wrong
 
-wrong-cut : (l : Line) → l .wrong ≡ true → cutOf l ≡ OtherByte (l .digits)
-unfolding cutOf
-wrong-cut l wrong = by-cr (l .«after_cr»)
-  where
-    by-cr : (cr : Bool) → cond cr (OtherByte (l .digits)) (endedOf l) ≡ OtherByte (l .digits)
-    by-cr true = refl
-    by-cr false = wrong-ended l wrong
-
 module _ (ld : Loading) (bytes entries : List ℕ) (going : isTrouble (ld .trouble) ≡ false) (wrong : ld .line .wrong ≡ true) where
   abbrev stopped-here : Taken
-  stopped-here = taken (stoppedBy (NotADigit (ld .line .digits)) ld) bytes entries
+  stopped-here = taken (stoppedBy (NotADigit (ld .line .digits) (ld .line .other)) ld) bytes entries
 
-  wrong-ends : endOf ld bytes entries ≡ endedWith stopped-here
-  unfolding endOf saidOf
-  wrong-ends = simp (going, wrong, wrong-cut (ld .line) wrong)
+  wrong-ends : endingOf (taken ld bytes entries) ≡ endedWith stopped-here
+  unfolding endOf
+  wrong-ends = simp (going, wrong)
 
   wrong-feed : (b : ℕ) → eqb b 10 ≡ true → nextOf ld b bytes entries ≡ stopped-here
   unfolding nextOf saidOf
@@ -70,13 +62,13 @@ module _ (ld : Loading) (bytes entries : List ℕ) (going : isTrouble (ld .troub
   unfolding nextOf byteOf
   wrong-byte b other = simp (going, other, wrong)
 
-  wrong-stays : (text : List ℕ) → endingOf (bytesOf ld text bytes entries) ≡ endOf ld bytes entries
+  wrong-stays : (text : List ℕ) → endingOf (bytesOf ld text bytes entries) ≡ endingOf (taken ld bytes entries)
   unfolding bytesOf
   wrong-stays [] = refl
   wrong-stays (b ∷ bs) = by-byte (eqb b 10) refl (wrong-stays bs)
     where
-      by-byte : (feed : Bool) → eqb b 10 ≡ feed → endingOf (bytesOf ld bs bytes entries) ≡ endOf ld bytes entries
-          → endingOf (bytesOf ld (b ∷ bs) bytes entries) ≡ endOf ld bytes entries
+      by-byte : (feed : Bool) → eqb b 10 ≡ feed → endingOf (bytesOf ld bs bytes entries) ≡ endingOf (taken ld bytes entries)
+          → endingOf (bytesOf ld (b ∷ bs) bytes entries) ≡ endingOf (taken ld bytes entries)
       by-byte true feed rest = ap (endsAfter bs) (wrong-feed b feed) ∙ ends-as-stopped stopped-here bs refl ∙ sym wrong-ends
       by-byte false other rest = ap (endsAfter bs) (wrong-byte b other) ∙ rest
 

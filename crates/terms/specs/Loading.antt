@@ -15,9 +15,9 @@ use Rattle.blocked_bitpacker.specs.Calls.{Changed, refusedCall, entriesFull, ne
 use Rattle.decimal.specs.declared.Numeral.{Numeral}
 use Rattle.decimal.specs.declared.Numeral.the-variants.{Number, Empty as EmptyLine, NotADigit as OtherByte, TooLarge as LargeNumber}
 use Rattle.decimal.specs.declared.line.Line.{Line}
-use Rattle.decimal.specs.Line.{newLine, byteOf, endedOf, cutOf}
+use Rattle.decimal.specs.Line.{newLine, byteOf, endedOf}
 use Rattle.terms.specs.declared.Trouble.{Trouble}
-use Rattle.terms.specs.declared.Trouble.the-variants.{Nothing, Empty, NotADigit, TooLarge, Refused}
+use Rattle.terms.specs.declared.Trouble.the-variants.{Nothing, Empty, NotADigit, TooLarge, Refused, Cut, NoLine}
 use Rattle.terms.specs.declared.Loading.{Loading}
 use Rattle.terms.specs.declared.Loaded.{Loaded}
 
@@ -38,9 +38,11 @@ addLineOf s v bytes entries =
 abbrev pub isTrouble : Trouble → Bool
 isTrouble Nothing = false
 isTrouble Empty = true
-isTrouble (NotADigit _) = true
+isTrouble (NotADigit _ _) = true
 isTrouble TooLarge = true
 isTrouble (Refused _) = true
+isTrouble Cut = true
+isTrouble NoLine = true
 
 abbrev pub troubleOf : Done → Trouble
 troubleOf Accepted = Nothing
@@ -76,7 +78,7 @@ addedTo ld c = taken (addedBy (c .stored) ld) (c .bytes) (c .entries)
 unfoldable pub saidOf : Loading → Numeral → List ℕ → List ℕ → Taken
 saidOf ld (Number v) bytes entries = addedTo ld (addLineOf (ld .store) v bytes entries)
 saidOf ld EmptyLine bytes entries = taken (stoppedBy Empty ld) bytes entries
-saidOf ld (OtherByte place) bytes entries = taken (stoppedBy (NotADigit place) ld) bytes entries
+saidOf ld (OtherByte place b) bytes entries = taken (stoppedBy (NotADigit place b) ld) bytes entries
 saidOf ld LargeNumber bytes entries = taken (stoppedBy TooLarge ld) bytes entries
 
 -- One byte more. A line feed ends a line.
@@ -119,15 +121,24 @@ loadedOf s lines trouble = record { store = s; lines = lines; trouble = trouble 
 abbrev pub ended : Loaded → List ℕ → List ℕ → Ended
 ended r bytes entries = record { loaded = r; bytes = bytes; entries = entries }
 
+-- What is known of it where it stands.
+abbrev pub loadedBy : Loading → Loaded
+loadedBy ld = loadedOf (ld .store) (ld .lines) (ld .trouble)
+
 abbrev pub endedWith : Taken → Ended
-endedWith t = ended (loadedOf (t .loading .store) (t .loading .lines) (t .loading .trouble)) (t .bytes) (t .entries)
+endedWith t = ended (loadedBy (t .loading)) (t .bytes) (t .entries)
 
 abbrev pub nothingRead : Line → Bool
 nothingRead l = not (l .wrong) && not (l .«after_cr») && eqb (l .digits) 0
 
--- The text ends. What follows its last line feed is a line too, unless nothing does.
-unfoldable pub endOf : Loading → List ℕ → List ℕ → Ended
-endOf ld bytes entries =
+-- The text ends. What follows its last line feed stops it: a byte that may not stand there, or else that the line has no end. So does a text
+-- of no line.
+unfoldable pub endOf : Loading → Loaded
+endOf ld =
     firstThatHolds
-    (check (isTrouble (ld .trouble)) (endedWith (taken ld bytes entries)) ∷ check (nothingRead (ld .line)) (endedWith (taken ld bytes entries)) ∷ [])
-    (endedWith (saidOf ld (cutOf (ld .line)) bytes entries))
+    (check (isTrouble (ld .trouble)) (loadedBy ld)
+    ∷ check (nothingRead (ld .line) && eqb (ld .lines) 0) (loadedBy (stoppedBy NoLine ld))
+    ∷ check (nothingRead (ld .line)) (loadedBy ld)
+    ∷ check (ld .line .wrong) (loadedBy (stoppedBy (NotADigit (ld .line .digits) (ld .line .other)) ld))
+    ∷ [])
+    (loadedBy (stoppedBy Cut ld))

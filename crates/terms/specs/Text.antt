@@ -1,7 +1,7 @@
 -- What a text of numbers says, and that a loading comes to it, however the text is cut into pieces.
 use Prim.Native.Nat.{ℕ, _+_, _-_, _^_, _<_, _≤_}
 use mathlib.Core.Path.{_≡_}
-use mathlib.Core.Bool.{Bool, true, false, _&&_, cond}
+use mathlib.Core.Bool.{Bool, true, false, _&&_, _||_, cond}
 use mathlib.Core.List.{List, [], _∷_, _++_, map}
 use lib.Dec.{eqb}
 use lib.ListN.{length, take}
@@ -12,12 +12,14 @@ use Rattle.blocked_bitpacker.specs.Calls.{Changed, newOf}
 use Rattle.decimal.specs.declared.Numeral.{Numeral}
 use Rattle.decimal.specs.declared.Numeral.the-variants.{Number, Empty as EmptyLine, NotADigit as OtherByte, TooLarge as LargeNumber}
 use Rattle.decimal.specs.Digits.{numeral, readOf}
+use Rattle.decimal.specs.Line.{withoutCr}
 use Rattle.promises.specs.Defined.{Held, held}
-use Rattle.promises.specs.Histories.{Call, add, begun, after, accepted, History}
+use Rattle.promises.specs.Reply.{values}
+use Rattle.promises.specs.Histories.{Call, add, count, replyOf, begun, after, accepted, History}
 use Rattle.promises.specs.Promises.{Found}
 use Rattle.terms.specs.declared.Trouble.{Trouble}
-use Rattle.terms.specs.declared.Trouble.the-variants.{Nothing, Empty, NotADigit, TooLarge, Refused}
-use Rattle.terms.specs.Loading.{isTrouble, troubleOf, settledOf, addLineOf, Taken, taken, beginOf, bytesOf, Ended, ended, loadedOf, endOf}
+use Rattle.terms.specs.declared.Trouble.the-variants.{Nothing, Empty, NotADigit, TooLarge, Refused, Cut, NoLine}
+use Rattle.terms.specs.Loading.{settledOf, addLineOf, Taken, taken, beginOf, bytesOf, Ended, ended, loadedOf, endOf}
 
 -- ---- its lines
 
@@ -25,16 +27,24 @@ abbrev pub startsWithFeed : List ℕ → Bool
 startsWithFeed [] = false
 startsWithFeed (b ∷ bs) = eqb b 10
 
--- A byte in front of the first line of what follows; that has no line where it is empty.
+-- A byte in front of the first line of what follows; where no line end follows, it belongs to no line.
 abbrev pub inFirst : ℕ → List (List ℕ) → List (List ℕ)
-inFirst b [] = (b ∷ []) ∷ []
+inFirst b [] = []
 inFirst b (line ∷ lines) = (b ∷ line) ∷ lines
 
--- A line feed ends a line, and a carriage return right before it belongs to that end. What follows the last line feed is a line too, unless
--- nothing does.
+-- A line feed ends a line, and a carriage return right before it belongs to that end. What follows the last line feed is no line.
 unfoldable pub linesOf : List ℕ → List (List ℕ)
 linesOf [] = []
 linesOf (b ∷ bs) = cond (eqb b 10) ([] ∷ linesOf bs) (cond (eqb b 13 && startsWithFeed bs) (linesOf bs) (inFirst b (linesOf bs)))
+
+unfoldable pub hasFeed : List ℕ → Bool
+hasFeed [] = false
+hasFeed (b ∷ bs) = eqb b 10 || hasFeed bs
+
+-- What follows the last line feed.
+unfoldable pub restOf : List ℕ → List ℕ
+restOf [] = []
+restOf (b ∷ bs) = cond (hasFeed (b ∷ bs)) (restOf bs) (b ∷ bs)
 
 -- The numbers of a text of which every line is a numeral.
 abbrev pub numbersOf : List ℕ → List ℕ
@@ -57,24 +67,33 @@ afterNumber c lines h next = afterAnswer c (c .stored .done) lines h next
 abbrev pub afterLine : Numeral → ℕ → Held → (ℕ → Held → Ended) → Ended
 afterLine (Number v) lines h next = afterNumber (addLineOf (h .store) v (h .bytes) (h .entries)) lines h next
 afterLine EmptyLine lines h next = stop Empty lines h
-afterLine (OtherByte place) lines h next = stop (NotADigit place) lines h
+afterLine (OtherByte place b) lines h next = stop (NotADigit place b) lines h
 afterLine LargeNumber lines h next = stop TooLarge lines h
 
+-- What the bytes behind the last line end come to: a byte that may not stand there is told, and else that their line has no end.
+abbrev pub withoutEnd : Numeral → ℕ → Held → Ended
+withoutEnd (Number v) lines h = stop Cut lines h
+withoutEnd EmptyLine lines h = stop Cut lines h
+withoutEnd (OtherByte place b) lines h = stop (NotADigit place b) lines h
+withoutEnd LargeNumber lines h = stop Cut lines h
+
+-- After the last line: nothing may follow it, and there was at least one.
+abbrev pub afterLast : List ℕ → ℕ → Held → Ended
+afterLast [] lines h = stop (cond (eqb lines 0) NoLine Nothing) lines h
+afterLast (b ∷ bs) lines h = withoutEnd (readOf (withoutCr (b ∷ bs))) lines h
+
 -- The lines' numbers are added one after the other. The first line that is no number, or whose number is refused, stops it.
-unfoldable pub loadLines : List (List ℕ) → ℕ → Held → Ended
-loadLines [] lines h = stop Nothing lines h
-loadLines (l ∷ ls) lines h = afterLine (readOf l) lines h (loadLines ls)
+unfoldable pub loadLines : List ℕ → List (List ℕ) → ℕ → Held → Ended
+loadLines rest [] lines h = afterLast rest lines h
+loadLines rest (l ∷ ls) lines h = afterLine (readOf l) lines h (loadLines rest ls)
 
 -- The same from a new store, which cannot be made on fewer than eight bytes.
-abbrev pub onNew : Trouble → List (List ℕ) → Held → Ended
-onNew Nothing ls h = loadLines ls 0 h
-onNew Empty ls h = stop Empty 0 h
-onNew (NotADigit place) ls h = stop (NotADigit place) 0 h
-onNew TooLarge ls h = stop TooLarge 0 h
-onNew (Refused why) ls h = stop (Refused why) 0 h
+abbrev pub onNew : Done → List ℕ → Held → Ended
+onNew Accepted text h = loadLines (restOf text) (linesOf text) 0 h
+onNew (NotDone why) text h = stop (Refused why) 0 h
 
 unfoldable pub loadOf : List ℕ → List ℕ → List ℕ → Ended
-loadOf text bytes entries = onNew (troubleOf (newOf bytes .stored .done)) (linesOf text) (begun bytes entries)
+loadOf text bytes entries = onNew (newOf bytes .stored .done) text (begun bytes entries)
 
 -- ---- that a loading comes to it
 
@@ -91,7 +110,7 @@ abbrev pub startOf : List ℕ → List ℕ → Taken
 startOf bytes entries = taken (beginOf bytes .loading) (beginOf bytes .bytes) entries
 
 abbrev pub endingOf : Taken → Ended
-endingOf t = endOf (t .loading) (t .bytes) (t .entries)
+endingOf t = ended (endOf (t .loading)) (t .bytes) (t .entries)
 
 -- However a text of fewer than 2^64 bytes is cut, taking its pieces and ending is what the whole text leads to.
 abbrev pub ThePiecesMakeTheText : Type 0
@@ -110,7 +129,7 @@ abbrev pub adds : List ℕ → List Call
 adds vs = map add vs
 
 -- Of what a text led to: the store and the areas are those after adding the numbers of the first lines, each of which was accepted; and
--- where nothing stopped it those are all numbers of the text.
+-- where nothing stopped it those are all numbers of the text, which has at least one and ends with a line end.
 pub record Holds (text bytes entries : List ℕ) (r : Ended) : Type 0 where
   pub numbers : List ℕ
   pub first : numbers ≡ take (r .loaded .lines) (numbersOf text)
@@ -119,9 +138,19 @@ pub record Holds (text bytes entries : List ℕ) (r : Ended) : Type 0 where
   pub added : held (r .loaded .store) (r .bytes) (r .entries) ≡ after (adds numbers) (begun bytes entries)
   pub all-accepted : accepted (adds numbers) (begun bytes entries) ≡ numbers
   pub whole : r .loaded .trouble ≡ Nothing → numbers ≡ numbersOf text
+  pub ended-line : r .loaded .trouble ≡ Nothing → restOf text ≡ []
+  pub some : r .loaded .trouble ≡ Nothing → 0 < length numbers
 
 abbrev pub TheStoreHoldsTheNumbers : Type 0
 TheStoreHoldsTheNumbers = (text bytes entries : List ℕ) → 8 ≤ length bytes → Holds text bytes entries (loadOf text bytes entries)
+
+-- Of a text that nothing stopped: the store's count, and how many lines were added, are the number of its lines.
+abbrev pub TheCountIsTheLines : Type 0
+TheCountIsTheLines =
+    (text bytes entries : List ℕ) → 8 ≤ length bytes → loadOf text bytes entries .loaded .trouble ≡ Nothing
+    → let r = loadOf text bytes entries in
+    (replyOf count (held (r .loaded .store) (r .bytes) (r .entries)) ≡ values (length (linesOf text) ∷ []))
+    × (r .loaded .lines ≡ length (linesOf text))
 
 -- Of a text that nothing stopped: a search of the store lists exactly the lines, counted from 0, whose number lies in the interval.
 abbrev pub NobodyInTheTextIsMissing : Type 0

@@ -2,7 +2,7 @@
 // store as soon as the line ends.
 ghost use mathlib.Core.Path.{_≡_};
 ghost use Rattle.blocked_bitpacker.specs.Calls.{changed, refusedWith};
-ghost use Rattle.terms.specs.Loading.{isTrouble, troubleOf, nothingRead, addLineOf, stoppedBy, addedBy, begun, beginOf, taken, saidOf, bytesOf, settledOf, loadedOf, ended, endOf};
+ghost use Rattle.terms.specs.Loading.{isTrouble, troubleOf, nothingRead, addLineOf, stoppedBy, addedBy, begun, beginOf, taken, saidOf, bytesOf, settledOf, loadedOf, endOf};
 use blocked_bitpacker::BlockedBitpacker;
 use blocked_bitpacker::Counted;
 use blocked_bitpacker::Done;
@@ -12,13 +12,16 @@ use decimal::Numeral;
 use refusal::Refusal;
 use std::num::wrapping_add_usize;
 
-// What stops a loading: a line that is no number, or a number that the store refuses.
+// What stops a loading: a line that is no number, or a number that the store refuses; at the end of the text, a last
+// line without its line end, which may have been cut, or that there is no line at all.
 pub enum Trouble {
     Nothing,
     Empty,
-    NotADigit(usize),
+    NotADigit(usize, u8),
     TooLarge,
     Refused(Refusal),
+    Cut,
+    NoLine,
 }
 
 // The store so far, how many lines were added to it, modulo 2^64, what is known of the line that goes on,
@@ -44,9 +47,11 @@ pub fn is_trouble(trouble: Trouble) -> bool
     match trouble {
         Trouble::Nothing => false,
         Trouble::Empty => true,
-        Trouble::NotADigit(_) => true,
+        Trouble::NotADigit(_, _) => true,
         Trouble::TooLarge => true,
         Trouble::Refused(_) => true,
+        Trouble::Cut => true,
+        Trouble::NoLine => true,
     }
 }
 
@@ -151,7 +156,7 @@ impl Loading {
         match numeral {
             Numeral::Number(value) => self.added(add(self.store, value, bytes, entries)),
             Numeral::Empty => self.stopped(Trouble::Empty),
-            Numeral::NotADigit(place) => self.stopped(Trouble::NotADigit(place)),
+            Numeral::NotADigit(place, byte) => self.stopped(Trouble::NotADigit(place, byte)),
             Numeral::TooLarge => self.stopped(Trouble::TooLarge),
         }
     }
@@ -220,9 +225,10 @@ impl Loading {
         }
     }
 
-    // The text ends here. What follows its last line feed is a line too, unless nothing does.
-    pub fn end(self, bytes: &mut [u8], entries: &mut [u64]) -> Loaded
-        ensures { λ r. ⌜ ended r (now (bytes .exit)) (now (entries .exit)) ≡ endOf self (now (bytes .entry)) (now (entries .entry)) ⌝ }
+    // The text ends here. Every line of it has its line end: what follows the last one stops it, and so does a text
+    // that has no line.
+    pub fn end(self) -> Loaded
+        ensures { λ r. ⌜ r ≡ endOf self ⌝ }
     {
         let trouble = self.trouble;
         if is_trouble(trouble) {
@@ -230,9 +236,15 @@ impl Loading {
         }
         let line = self.line;
         if nothing_read(line) {
+            if self.lines == 0 {
+                return self.stopped(Trouble::NoLine).loaded();
+            }
             return self.loaded();
         }
-        let last = self.said(line.cut(), bytes, entries);
-        last.loaded()
+        if line.wrong {
+            return self.stopped(Trouble::NotADigit(line.digits, line.other))
+                .loaded();
+        }
+        self.stopped(Trouble::Cut).loaded()
     }
 }

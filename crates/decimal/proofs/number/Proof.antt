@@ -62,7 +62,7 @@ returns : tie.Need-returns Inv-loop μ-loop
 returns c =
     let asked = c .before .before in
     let turn = asked .before .before in
-    let other = appended-no-digit _ _ _ (sym (asked .append .ensures) ∙ c .enum-told .given .1) in
+    let other = appended-no-digit _ _ _ _ (sym (asked .append .ensures) ∙ c .enum-told .given .1) in
     let z : true ≡ false = sym (next-digit turn) ∙ other in
     absurd (let w : _≡_ {A = ℕ} 0 1 = cc in omega arith)
 

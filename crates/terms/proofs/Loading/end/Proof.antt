@@ -1,14 +1,14 @@
--- The checks are the definition's, in its order; what follows the last line feed is a line like any other.
-use mathlib.Core.Path.{_≡_, sym, ap, _∙_}
+-- The checks are the definition's, in its order.
+use mathlib.Core.Path.{_≡_, sym, _∙_}
 use mathlib.Core.Bool.{false}
 use borrow.Author.Needs.{needs}
-use Rattle.terms.specs.Loading.{isTrouble, endedWith}
-use Rattle.terms.proofs.Laws.{same-said, same-ended, end-troubled, end-after-feed, end-in-line}
+use Rattle.terms.specs.Loading.{isTrouble}
+use Rattle.terms.proofs.Laws.{same-loaded, end-troubled, end-without-line, end-after-feed, end-in-wrong-line, end-in-line}
 use Rattle.terms.proofs.Loading.end.Statement.{statement}
 use Rattle.terms.proofs.Loading.end.Tie as tie
 
-untroubled : (c : tie.Else1) → isTrouble (c .before .before .before .before .args .self .trouble) ≡ false
-untroubled c = sym (c .before .is-trouble .ensures) ∙ c .if1 .left
+untroubled : (c : tie.After-nothing-read) → isTrouble (c .before .before .before .before .args .self .trouble) ≡ false
+untroubled c = let judged = c .before .before in sym (judged .before .is-trouble .ensures) ∙ judged .if1 .left
 
 is-trouble-requires : tie.Need-is-trouble-requires
 is-trouble-requires c κs = search needs
@@ -19,45 +19,62 @@ loaded-requires c κs = search needs
 returns : tie.Need-returns
 returns c =
     let judged = c .before .before in
-    same-ended _ _ (c .loaded .ensures) ∙ end-troubled _ _ _ (sym (judged .is-trouble .ensures) ∙ c .before .if1 .taken)
+    c .loaded .ensures ∙ end-troubled _ (sym (judged .is-trouble .ensures) ∙ c .before .if1 .taken)
 
 nothing-read-requires : tie.Need-nothing-read-requires
 nothing-read-requires c κs = search needs
+
+stopped-requires : tie.Need-stopped-requires
+stopped-requires c κs = search needs
 
 loaded-requires-2 : tie.Need-loaded-requires-2
 loaded-requires-2 c κs = search needs
 
 returns-2 : tie.Need-returns-2
 returns-2 c =
-    let asked = c .before .before in
-    same-ended _ _ (c .loaded2 .ensures)
-    ∙ end-after-feed _ _ _ (untroubled (asked .before .before)) (sym (asked .nothing-read .ensures) ∙ c .before .if2 .taken)
-
-cut-requires : tie.Need-cut-requires
-cut-requires c κs = search needs
-
-said-requires : tie.Need-said-requires
-said-requires c κs = search needs
+    let counted = c .before .before in
+    let read = counted .before .before in
+    let asked = read .before in
+    same-loaded (c .loaded2 .ensures) (c .before .stopped .ensures)
+    ∙ end-without-line _ (untroubled asked) (sym (asked .nothing-read .ensures) ∙ read .if2 .taken) (counted .if3 .taken)
 
 loaded-requires-3 : tie.Need-loaded-requires-3
 loaded-requires-3 c κs = search needs
 
-same-length : tie.Need-same-length
-same-length c = search needs
-
-same-length-2 : tie.Need-same-length-2
-same-length-2 c = search needs
-
 returns-3 : tie.Need-returns-3
 returns-3 c =
-    let called = c .before .before .before .before .before in
-    let read = called .before .before .before in
-    let asked = read .before .before in
-    let judged = asked .before .before in
-    same-ended _ _ (c .loaded3 .ensures)
-    ∙ ap endedWith
-    (called .said .ensures ∙ same-said _ _ _ (read .cut .ensures))
-    ∙ end-in-line _ _ _ (untroubled judged) (sym (asked .nothing-read .ensures) ∙ read .before .if2 .left)
+    let counted = c .before in
+    let read = counted .before .before in
+    let asked = read .before in
+    c .loaded3 .ensures ∙ end-after-feed _ (untroubled asked) (sym (asked .nothing-read .ensures) ∙ read .if2 .taken) (counted .if3 .left)
+
+stopped-requires-2 : tie.Need-stopped-requires-2
+stopped-requires-2 c κs = search needs
+
+loaded-requires-4 : tie.Need-loaded-requires-4
+loaded-requires-4 c κs = search needs
+
+returns-4 : tie.Need-returns-4
+returns-4 c =
+    let looked = c .before .before in
+    let read = looked .before in
+    let asked = read .before in
+    same-loaded (c .loaded4 .ensures) (c .before .stopped2 .ensures)
+    ∙ end-in-wrong-line _ (untroubled asked) (sym (asked .nothing-read .ensures) ∙ read .if2 .left) (looked .if4 .taken)
+
+stopped-requires-3 : tie.Need-stopped-requires-3
+stopped-requires-3 c κs = search needs
+
+loaded-requires-5 : tie.Need-loaded-requires-5
+loaded-requires-5 c κs = search needs
+
+returns-5 : tie.Need-returns-5
+returns-5 c =
+    let looked = c .before .before in
+    let read = looked .before in
+    let asked = read .before in
+    same-loaded (c .loaded5 .ensures) (c .before .stopped3 .ensures)
+    ∙ end-in-line _ (untroubled asked) (sym (asked .nothing-read .ensures) ∙ read .if2 .left) (looked .if4 .left)
 
 pub end-spec : {M : Type 1} → statement M
 end-spec =
@@ -67,11 +84,14 @@ end-spec =
     loaded-requires
     returns
     nothing-read-requires
+    stopped-requires
     loaded-requires-2
     returns-2
-    cut-requires
-    said-requires
     loaded-requires-3
-    same-length
-    same-length-2
-    returns-3)
+    returns-3
+    stopped-requires-2
+    loaded-requires-4
+    returns-4
+    stopped-requires-3
+    loaded-requires-5
+    returns-5)

@@ -65,7 +65,7 @@ returns-4 c =
     let line = judged .before .before .args .self in
     let said = appended (line .value) (judged .before .before .args .byte) _ (sym (asked .append .ensures) ∙ c .before .before .value .given .1) in
     c .with-digit .ensures
-    ∙ ap (λ n. lineOf ((line .digits + 1) % 2 ^ 64) (cond (line .«too_large») 0 n) (line .«too_large») false false) (sym (said .number))
+    ∙ ap (λ n. lineOf ((line .digits + 1) % 2 ^ 64) (cond (line .«too_large») 0 n) (line .«too_large») false false 0) (sym (said .number))
     ∙ sym (byte-fits line _ (judged .before .if1 .left) (judged .if2 .left) (said .digit) (omega (arith, said .number, said .fits)))
 
 returns-5 : tie.Need-returns-5
@@ -81,7 +81,7 @@ returns-6 c =
     let asked = c .before .before .before in
     let judged = asked .before .before in
     let line = judged .before .before .args .self in
-    let other = appended-no-digit (line .value) (judged .before .before .args .byte) _ (sym (asked .append .ensures) ∙ c .before .enum-told2 .given .1) in
+    let other = appended-no-digit (line .value) (judged .before .before .args .byte) _ _ (sym (asked .append .ensures) ∙ c .before .enum-told2 .given .1) in
     c .wrongly2 .ensures ∙ sym (byte-is-other line _ (judged .before .if1 .left) (judged .if2 .left) (asked .before .if3 .left) other)
 
 returns-7 : tie.Need-returns-7

@@ -10,7 +10,7 @@ wrapping-add-usize-requires : tie.Need-wrapping-add-usize-requires
 wrapping-add-usize-requires c κs = search needs
 
 returns : tie.Need-returns
-returns c = ap (λ n. lineOf n 0 true false false) (c .wrapping-add-usize .ensures)
+returns c = ap (λ n. lineOf n 0 true false false 0) (c .wrapping-add-usize .ensures)
 
 pub grown-too-large-spec : {M : Type 1} → statement M
 grown-too-large-spec = tie.close (tie.spec wrapping-add-usize-requires returns)

@@ -12,12 +12,12 @@ wrapping-add-usize-requires c κs = search needs
 returns : tie.Need-returns
 returns c =
     let line = c .before .before .args .self in
-    ap (λ n. lineOf n 0 (line .«too_large») false false) (c .before .wrapping-add-usize .ensures) ∙ sym (simp (c .if1 .taken))
+    ap (λ n. lineOf n 0 (line .«too_large») false false 0) (c .before .wrapping-add-usize .ensures) ∙ sym (simp (c .if1 .taken))
 
 returns-2 : tie.Need-returns-2
 returns-2 c =
     let line = c .before .before .args .self in
-    ap (λ n. lineOf n (c .before .before .args .value) (line .«too_large») false false) (c .before .wrapping-add-usize .ensures)
+    ap (λ n. lineOf n (c .before .before .args .value) (line .«too_large») false false 0) (c .before .wrapping-add-usize .ensures)
     ∙ sym (simp (c .if1 .left))
 
 pub with-digit-spec : {M : Type 1} → statement M
