@@ -1,5 +1,6 @@
 -- A search over any two numbers, by one over ids of 32 bits: an empty range finds nothing wherever it lies, and a range that ends past every
--- store's count is refused wherever it starts. And two words are the same exactly where no letter differs.
+-- store's count is refused wherever it starts. Two words are the same exactly where no letter differs; and what is asked for depends on what
+-- was read alone.
 use mathlib.Core.Path.{_≡_, refl, sym, ap, _∙_}
 use mathlib.Core.Bool.{Bool, true, false, _&&_, cond}
 use mathlib.Core.List.{List, [], _∷_}
@@ -23,8 +24,11 @@ use Rattle.blocked_bitpacker.specs.Calls.{countedOf, searchOf}
 use Rattle.blocked_bitpacker.proofs.Judged.{judged}
 use Rattle.blocked_bitpacker.proofs.Values.{count-small}
 use Rattle.decimal.specs.declared.Numeral.{Numeral}
-use Rattle.desk.specs.declared.words.Request.the-variants.{ListPart}
-use Rattle.desk.specs.Words.{sameWord, isNumber, numberIn, listPartOf}
+use Rattle.desk.specs.declared.words.Fault.{Fault}
+use Rattle.desk.specs.declared.words.Request.{Request}
+use Rattle.desk.specs.declared.words.Request.the-variants.{Wrong}
+use Rattle.desk.specs.declared.words.Verb.{Verb}
+use Rattle.desk.specs.Words.{sameWord, isFault, faultOf, requestBy, unlessWrong}
 
 true-or-false : (t : Bool) → (t ≡ true) ⊎ (t ≡ false)
 true-or-false true = inl refl
@@ -130,9 +134,17 @@ words-end (x ∷ xs) [] i past same = absurd (omega arith)
 words-end (x ∷ xs) (y ∷ ys) zero past same = absurd (omega arith)
 words-end (x ∷ xs) (y ∷ ys) (suc i) past same = words-end xs ys i (omega arith) (omega arith)
 
--- ---- four numbers
+-- ---- what is asked for, from the parts that were read
 
-pub four-numbers : (lo hi from to : Numeral) {a b c d : ℕ} → isNumber lo ≡ true → isNumber hi ≡ true → isNumber from ≡ true → isNumber to ≡ true
-    → a ≡ numberIn lo → b ≡ numberIn hi → c ≡ numberIn from → d ≡ numberIn to → ListPart a b c d ≡ listPartOf lo hi from to
-unfolding listPartOf
-four-numbers lo hi from to low high start end a b c d = simp (low, high, start, end, a, b, c, d)
+module _ (count long : ℕ) {fault : Fault} {verb verb' : Verb} {a a' b b' c c' d d' : Numeral} (is : fault ≡ faultOf count long verb a b c d)
+    (e : verb ≡ verb') (ea : a ≡ a') (eb : b ≡ b') (ec : c ≡ c') (ed : d ≡ d') where
+  asked-by : unlessWrong fault (requestBy count verb a b c d) ≡ unlessWrong (faultOf count long verb' a' b' c' d') (requestBy count verb' a' b' c' d')
+  asked-by = cc
+
+  pub wrong-asked : isFault fault ≡ true → Wrong fault ≡ unlessWrong (faultOf count long verb' a' b' c' d') (requestBy count verb' a' b' c' d')
+  wrong-asked wrong = sym (ap (λ t. cond t (Wrong fault) (requestBy count verb a b c d)) wrong) ∙ asked-by
+
+  pub right-asked : {request : Request} → isFault fault ≡ false → request ≡ requestBy count verb a b c d
+      → request ≡ unlessWrong (faultOf count long verb' a' b' c' d') (requestBy count verb' a' b' c' d')
+  right-asked right is-request =
+      is-request ∙ sym (ap (λ t. cond t (Wrong fault) (requestBy count verb a b c d)) right) ∙ asked-by

@@ -1,17 +1,20 @@
--- The program's words: `help`; `show TERMS`; `get TERMS ID`; `list TERMS LO HI`; `list TERMS LO HI FROM TO`. Anything else is wrong, and a
--- word in a number's place that is no number is named.
+-- The program's words: `help`, also as `--help` and `-h`; `--version`; `show TERMS`; `get TERMS ID`; `list TERMS LO HI`;
+-- `list TERMS LO HI FROM TO`. Anything else is wrong, and the first fault is told.
 use Prim.Native.Nat.{ℕ}
-use mathlib.Core.Bool.{Bool, true, false, not, _&&_}
+use mathlib.Core.Bool.{Bool, true, false, not, _&&_, cond}
 use mathlib.Core.List.{List, [], _∷_}
-use lib.Dec.{eqb}
+use lib.Dec.{eqb, ltb, leb}
 use Rattle.refusal.specs.First.{check, firstThatHolds}
 use Rattle.decimal.specs.declared.Numeral.{Numeral}
 use Rattle.decimal.specs.declared.Numeral.the-variants.{Number, Empty, NotADigit, TooLarge}
 use Rattle.decimal.specs.Digits.{readOf}
+use Rattle.desk.specs.declared.words.Word.the-variants.{Verb as theVerb, Terms, Id, Lo, Hi, From, To}
+use Rattle.desk.specs.declared.words.Fault.{Fault}
+use Rattle.desk.specs.declared.words.Fault.the-variants.{Fine, TooLong, Missing, NoVerb, TooMany, NotANumber, LoAboveHi, FromNotBelowTo}
 use Rattle.desk.specs.declared.words.Request.{Request}
-use Rattle.desk.specs.declared.words.Request.the-variants.{Help, Show, Get, List as Listing, ListPart, NotANumber, Wrong}
+use Rattle.desk.specs.declared.words.Request.the-variants.{Help, Version, Show, Get, List as Listing, ListPart, Wrong}
 use Rattle.desk.specs.declared.words.Verb.{Verb}
-use Rattle.desk.specs.declared.words.Verb.the-variants.{Help as helpVerb, Show as showVerb, Get as getVerb, List as listVerb, Other}
+use Rattle.desk.specs.declared.words.Verb.the-variants.{Help as helpVerb, Version as versionVerb, Show as showVerb, Get as getVerb, List as listVerb, Other}
 
 unfoldable pub sameWord : List ℕ → List ℕ → Bool
 sameWord [] [] = true
@@ -19,11 +22,14 @@ sameWord [] (y ∷ ys) = false
 sameWord (x ∷ xs) [] = false
 sameWord (x ∷ xs) (y ∷ ys) = eqb x y && sameWord xs ys
 
--- The four verbs, letter by letter.
+-- The verbs, letter by letter: `help`, `--help`, `-h`, `--version`, `show`, `get`, `list`.
 unfoldable pub verbOf : List ℕ → Verb
 verbOf word =
     firstThatHolds
     (check (sameWord word (104 ∷ 101 ∷ 108 ∷ 112 ∷ [])) helpVerb
+    ∷ check (sameWord word (45 ∷ 45 ∷ 104 ∷ 101 ∷ 108 ∷ 112 ∷ [])) helpVerb
+    ∷ check (sameWord word (45 ∷ 104 ∷ [])) helpVerb
+    ∷ check (sameWord word (45 ∷ 45 ∷ 118 ∷ 101 ∷ 114 ∷ 115 ∷ 105 ∷ 111 ∷ 110 ∷ [])) versionVerb
     ∷ check (sameWord word (115 ∷ 104 ∷ 111 ∷ 119 ∷ [])) showVerb
     ∷ check (sameWord word (103 ∷ 101 ∷ 116 ∷ [])) getVerb
     ∷ check (sameWord word (108 ∷ 105 ∷ 115 ∷ 116 ∷ [])) listVerb
@@ -33,52 +39,106 @@ verbOf word =
 abbrev pub isNumber : Numeral → Bool
 isNumber (Number n) = true
 isNumber Empty = false
-isNumber (NotADigit place) = false
+isNumber (NotADigit place b) = false
 isNumber TooLarge = false
 
 abbrev pub numberIn : Numeral → ℕ
 numberIn (Number n) = n
 numberIn Empty = 0
-numberIn (NotADigit place) = 0
+numberIn (NotADigit place b) = 0
 numberIn TooLarge = 0
 
-unfoldable pub helpOf : ℕ → Request
-helpOf count = firstThatHolds (check (eqb count 1) Help ∷ []) Wrong
+-- ---- what is wrong
 
-unfoldable pub showOf : ℕ → Request
-showOf count = firstThatHolds (check (eqb count 2) Show ∷ []) Wrong
+abbrev pub isFault : Fault → Bool
+isFault Fine = false
+isFault (TooLong n) = true
+isFault (Missing word) = true
+isFault NoVerb = true
+isFault (TooMany n) = true
+isFault (NotANumber word) = true
+isFault LoAboveHi = true
+isFault FromNotBelowTo = true
 
-unfoldable pub getOf : ℕ → Numeral → Request
-getOf count id =
-    firstThatHolds (check (not (eqb count 3)) Wrong ∷ check (not (isNumber id)) (NotANumber 3) ∷ []) (Get (numberIn id))
+unfoldable pub aloneFault : ℕ → Fault
+aloneFault count = firstThatHolds (check (ltb 1 count) (TooMany 2) ∷ []) Fine
 
-unfoldable pub listPartOf : Numeral → Numeral → Numeral → Numeral → Request
-listPartOf lo hi from to =
+unfoldable pub showFault : ℕ → Fault
+showFault count = firstThatHolds (check (ltb count 2) (Missing Terms) ∷ check (ltb 2 count) (TooMany 3) ∷ []) Fine
+
+unfoldable pub getFault : ℕ → Numeral → Fault
+getFault count id =
     firstThatHolds
-    (check (not (isNumber lo)) (NotANumber 3)
-    ∷ check (not (isNumber hi)) (NotANumber 4)
-    ∷ check (not (isNumber from)) (NotANumber 5)
-    ∷ check (not (isNumber to)) (NotANumber 6)
+    (check (ltb count 2) (Missing Terms)
+    ∷ check (ltb count 3) (Missing Id)
+    ∷ check (ltb 3 count) (TooMany 4)
+    ∷ check (not (isNumber id)) (NotANumber Id)
     ∷ [])
-    (ListPart (numberIn lo) (numberIn hi) (numberIn from) (numberIn to))
+    Fine
 
-unfoldable pub listOf : ℕ → Numeral → Numeral → Numeral → Numeral → Request
-listOf count lo hi from to =
+-- Both ends belong to the interval: LO may be HI, and not above it.
+unfoldable pub intervalFault : Numeral → Numeral → Fault
+intervalFault lo hi =
     firstThatHolds
-    (check (eqb count 6) (listPartOf lo hi from to)
-    ∷ check (not (eqb count 4)) Wrong
-    ∷ check (not (isNumber lo)) (NotANumber 3)
-    ∷ check (not (isNumber hi)) (NotANumber 4)
+    (check (not (isNumber lo)) (NotANumber Lo)
+    ∷ check (not (isNumber hi)) (NotANumber Hi)
+    ∷ check (ltb (numberIn hi) (numberIn lo)) LoAboveHi
     ∷ [])
-    (Listing (numberIn lo) (numberIn hi))
+    Fine
 
-abbrev pub byVerb : Verb → ℕ → Numeral → Numeral → Numeral → Numeral → Request
-byVerb helpVerb count third fourth fifth sixth = helpOf count
-byVerb showVerb count third fourth fifth sixth = showOf count
-byVerb getVerb count third fourth fifth sixth = getOf count third
-byVerb listVerb count third fourth fifth sixth = listOf count third fourth fifth sixth
-byVerb Other count third fourth fifth sixth = Wrong
+-- TO does not belong to the range: FROM is below it.
+unfoldable pub rangeFault : Numeral → Numeral → Fault
+rangeFault from to =
+    firstThatHolds
+    (check (not (isNumber from)) (NotANumber From)
+    ∷ check (not (isNumber to)) (NotANumber To)
+    ∷ check (leb (numberIn to) (numberIn from)) FromNotBelowTo
+    ∷ [])
+    Fine
 
-unfoldable pub requestOf : ℕ → List ℕ → List ℕ → List ℕ → List ℕ → List ℕ → Request
-requestOf count word third fourth fifth sixth =
-    byVerb (verbOf word) count (readOf third) (readOf fourth) (readOf fifth) (readOf sixth)
+-- Four words, or six.
+unfoldable pub listFault : ℕ → Numeral → Numeral → Numeral → Numeral → Fault
+listFault count lo hi from to =
+    firstThatHolds
+    (check (ltb count 2) (Missing Terms)
+    ∷ check (ltb count 3) (Missing Lo)
+    ∷ check (ltb count 4) (Missing Hi)
+    ∷ check (eqb count 5) (Missing To)
+    ∷ check (ltb 6 count) (TooMany 7)
+    ∷ check (isFault (intervalFault lo hi)) (intervalFault lo hi)
+    ∷ check (eqb count 6) (rangeFault from to)
+    ∷ [])
+    Fine
+
+abbrev pub verbFault : Verb → ℕ → Numeral → Numeral → Numeral → Numeral → Fault
+verbFault helpVerb count third fourth fifth sixth = aloneFault count
+verbFault versionVerb count third fourth fifth sixth = aloneFault count
+verbFault showVerb count third fourth fifth sixth = showFault count
+verbFault getVerb count third fourth fifth sixth = getFault count third
+verbFault listVerb count third fourth fifth sixth = listFault count third fourth fifth sixth
+verbFault Other count third fourth fifth sixth = NoVerb
+
+unfoldable pub faultOf : ℕ → ℕ → Verb → Numeral → Numeral → Numeral → Numeral → Fault
+faultOf count long verb third fourth fifth sixth =
+    firstThatHolds
+    (check (not (eqb long 0)) (TooLong long) ∷ check (eqb count 0) (Missing theVerb) ∷ [])
+    (verbFault verb count third fourth fifth sixth)
+
+-- ---- what is asked for
+
+unfoldable pub requestBy : ℕ → Verb → Numeral → Numeral → Numeral → Numeral → Request
+requestBy count helpVerb third fourth fifth sixth = Help
+requestBy count versionVerb third fourth fifth sixth = Version
+requestBy count showVerb third fourth fifth sixth = Show
+requestBy count getVerb third fourth fifth sixth = Get (numberIn third)
+requestBy count listVerb third fourth fifth sixth =
+    cond (eqb count 6) (ListPart (numberIn third) (numberIn fourth) (numberIn fifth) (numberIn sixth)) (Listing (numberIn third) (numberIn fourth))
+requestBy count Other third fourth fifth sixth = Wrong NoVerb
+
+abbrev pub unlessWrong : Fault → Request → Request
+unlessWrong fault request = cond (isFault fault) (Wrong fault) request
+
+unfoldable pub requestOf : ℕ → ℕ → List ℕ → List ℕ → List ℕ → List ℕ → List ℕ → Request
+requestOf count long word third fourth fifth sixth =
+    unlessWrong (faultOf count long (verbOf word) (readOf third) (readOf fourth) (readOf fifth) (readOf sixth))
+    (requestBy count (verbOf word) (readOf third) (readOf fourth) (readOf fifth) (readOf sixth))
