@@ -25,6 +25,7 @@ fn call(line: &[u8]) {
     say_call(line);
     let request = desk::asked(
         words::count(line),
+        0,
         words::word(line, 1),
         words::word(line, 3),
         words::word(line, 4),

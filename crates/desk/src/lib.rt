@@ -11,8 +11,11 @@ use bitunpacker::Got;
 use blocked_bitpacker::BlockedBitpacker;
 use blocked_bitpacker::Counted;
 use refusal::Refusal;
+pub use words::Fault;
 pub use words::Request;
+pub use words::Word;
 pub use words::asked;
+pub use words::same_word;
 
 // The ids from `from` to before `to` whose value lies in lo..hi, where both may be any numbers: the store's
 // own search takes ids of 32 bits, and no store counts so far.

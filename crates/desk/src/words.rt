@@ -46,7 +46,8 @@ pub enum Verb {
     Other,
 }
 
-fn same_word(a: &[u8], b: &[u8]) -> bool
+// Whether two words are the same, byte by byte.
+pub fn same_word(a: &[u8], b: &[u8]) -> bool
     ensures { λ r. ⌜ r ≡ sameWord (now (a .entry)) (now (b .entry)) ⌝ }
 {
     if a.len() != b.len() {

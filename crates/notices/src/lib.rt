@@ -1,4 +1,5 @@
 // What the desk's program says when it has no answer: the usage and the refusals, each in one place.
+mod bytes;
 mod refuse;
 mod usage;
 
@@ -7,7 +8,7 @@ pub use refuse::file;
 pub use refuse::text;
 pub use refuse::unwritable;
 pub use usage::help;
-pub use usage::not_a_number;
+pub use usage::version;
 pub use usage::wrong;
 
 // What a call came to: an answer, a refusal, or words that are no request.

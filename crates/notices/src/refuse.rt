@@ -1,4 +1,4 @@
-// Refusals: `refused NUMBER NAME: what is wrong, and what to do`. Numbers to 12 are the papers'; those from 20 on are the program's own.
+// Refusals: `refused NUMBER NAME: FILE: what is wrong, and what to do`. Numbers to 12 are the papers'; those from 20 on are the program's own.
 ghost use mathlib.Core.Path.{_≡_};
 use crate::LIMIT;
 use crate::REFUSED;
@@ -21,33 +21,41 @@ fn name(err: i32, why: Refusal) -> bool {
     }
 }
 
-// `refused NUMBER NAME: `
-fn begin(err: i32, why: Refusal) -> bool {
+// `refused NUMBER NAME: FILE`
+fn begin(err: i32, why: Refusal, path: &[u8]) -> bool {
     io::write_all(err, b"refused ");
     io::print_decimal(err, why.number() as u64);
-    name(err, why)
+    name(err, why);
+    io::write_all(err, path)
 }
 
-// How many values the store has, as the refusal of an index says it.
+// Which ids the store has, as the refusal of an index says it.
 fn among(err: i32, values: u64) -> bool {
-    io::write_all(err, b"the column has ");
+    io::write_all(err, b": the ids of this column are those below ");
     io::print_decimal(err, values);
-    io::write_all(err, b" values; ask for ids below that\n")
+    io::write_all(err, b"\n")
 }
 
 // No file leads to any other refusal of an answer.
 fn unforeseen(err: i32) -> bool {
     io::write_all(
         err,
-        b"no file should lead here; please report it, with the file\n",
+        b": no file should lead here; please report it, with the file\n",
     )
 }
 
 // An id, or a range of ids, that the store refuses.
-pub fn answer(err: i32, why: Refusal, store: BlockedBitpacker, bytes: &[u8], entries: &[u64]) -> u8
+pub fn answer(
+    err: i32,
+    path: &[u8],
+    why: Refusal,
+    store: BlockedBitpacker,
+    bytes: &[u8],
+    entries: &[u64],
+) -> u8
     ensures { λ r. ⌜ r ≡ 1 ⌝ }
 {
-    begin(err, why);
+    begin(err, why, path);
     match store.count(bytes, entries) {
         Counted::Count(values) => {
             if why.number() == 7 {
@@ -65,60 +73,80 @@ pub fn answer(err: i32, why: Refusal, store: BlockedBitpacker, bytes: &[u8], ent
 
 // ---- a text
 
+// `, line N (id N - 1): `, of the line after so many others.
 fn line(err: i32, lines: usize) -> bool {
-    io::write_all(err, b"line ");
-    io::print_decimal(err, std::num::wrapping_add_u64(lines as u64, 1))
+    io::write_all(err, b", line ");
+    io::print_decimal(err, std::num::wrapping_add_u64(lines as u64, 1));
+    io::write_all(err, b" (id ");
+    io::print_decimal(err, lines as u64);
+    io::write_all(err, b"): ")
 }
 
-fn bad_text(err: i32, lines: usize) -> bool {
+fn bad_text(err: i32, path: &[u8]) -> bool {
     io::write_all(err, b"refused 20 BadText: ");
-    line(err, lines)
+    io::write_all(err, path)
 }
 
-fn too_many(err: i32, lines: usize) -> bool {
+fn bad_line(err: i32, path: &[u8], lines: usize, what: &[u8]) -> bool {
+    bad_text(err, path);
     line(err, lines);
-    io::write_all(err, b" is one too many: a column has at most ");
+    io::write_all(err, what)
+}
+
+fn other_byte(err: i32, path: &[u8], lines: usize, place: usize, byte: u8) -> bool {
+    bad_text(err, path);
+    line(err, lines);
+    crate::bytes::other(err, lines, place, byte)
+}
+
+fn no_line(err: i32, path: &[u8]) -> bool {
+    bad_text(err, path);
+    io::write_all(
+        err,
+        b": there is no number in it; see that it is the right file, and that it was written to its end\n",
+    )
+}
+
+fn not_added(err: i32, path: &[u8], why: Refusal, lines: usize) -> bool {
+    begin(err, why, path);
+    if why.number() != 5 {
+        return unforeseen(err);
+    }
+    line(err, lines);
+    io::write_all(err, b"one number too many: a column has at most ");
     io::print_decimal(err, LIMIT);
     io::write_all(err, b" values; split the file\n")
 }
 
-fn not_added(err: i32, why: Refusal, lines: usize) -> bool {
-    begin(err, why);
-    if why.number() == 5 {
-        too_many(err, lines)
-    } else {
-        unforeseen(err)
-    }
-}
-
-fn other_byte(err: i32, lines: usize, place: usize) -> bool {
-    bad_text(err, lines);
-    io::write_all(err, b" has no digit at place ");
-    io::print_decimal(err, std::num::wrapping_add_u64(place as u64, 1));
-    io::write_all(err, b"; write each number in digits only, one a line\n")
-}
-
-// The line that stopped a text: the one after those that were added.
-pub fn text(err: i32, loaded: Loaded) -> u8
+// What stopped a text: the line after those that were added, or that there is none.
+pub fn text(err: i32, path: &[u8], loaded: Loaded) -> u8
     ensures { λ r. ⌜ r ≡ 1 ⌝ }
 {
     let lines = loaded.lines;
     let trouble = loaded.trouble;
     match trouble {
         Trouble::Nothing => false,
-        Trouble::Empty => {
-            bad_text(err, lines);
-            io::write_all(err, b" is empty; write one number on it, or take it out\n")
-        }
-        Trouble::NotADigit(place) => other_byte(err, lines, place),
-        Trouble::TooLarge => {
-            bad_text(err, lines);
-            io::write_all(
-                err,
-                b" is a number of 18446744073709551616 or more; the largest is 18446744073709551615\n",
-            )
-        }
-        Trouble::Refused(why) => not_added(err, why, lines),
+        Trouble::Empty => bad_line(
+            err,
+            path,
+            lines,
+            b"the line is empty; write one number on it, or take it out\n",
+        ),
+        Trouble::NotADigit(place, byte) => other_byte(err, path, lines, place, byte),
+        Trouble::TooLarge => bad_line(
+            err,
+            path,
+            lines,
+            b"a number of 18446744073709551616 or more; the largest is 18446744073709551615\n",
+        ),
+        Trouble::Refused(why) => not_added(err, path, why, lines),
+        Trouble::Cut => bad_line(
+            err,
+            path,
+            lines,
+            b"the last line has no line end, so a part of it may be missing; see that the file was written to its end, and end the line\n",
+        ),
+        Trouble::NoLine => no_line(err, path),
     }
     ;
     REFUSED

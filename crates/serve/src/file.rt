@@ -58,7 +58,7 @@ pub(crate) fn load(fd: i32, bytes: &mut [u8], entries: &mut [u64]) -> Read {
         turns -= 1;
     }
     Read {
-        loaded: loading.end(bytes, entries),
+        loaded: loading.end(),
         failed,
         error,
     }

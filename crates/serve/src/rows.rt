@@ -186,11 +186,18 @@ fn shown(out: i32, err: i32, store: BlockedBitpacker, values: u64, entries: &[u6
 }
 
 // How many values there are, whether more can be added, and how they are packed.
-pub(crate) fn show(out: i32, err: i32, store: BlockedBitpacker, bytes: &[u8], entries: &[u64]) -> u8
+pub(crate) fn show(
+    out: i32,
+    err: i32,
+    path: &[u8],
+    store: BlockedBitpacker,
+    bytes: &[u8],
+    entries: &[u64],
+) -> u8
     ensures { λ r. ⌜ r ≤ 1 ⌝ }
 {
     match store.count(bytes, entries) {
-        Counted::Refused(why) => notices::answer(err, why, store, bytes, entries),
+        Counted::Refused(why) => notices::answer(err, path, why, store, bytes, entries),
         Counted::Count(values) => shown(out, err, store, values as u64, entries),
     }
 }
