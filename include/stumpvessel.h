@@ -114,8 +114,8 @@ uint8_t stumpvessel_width(uint64_t amplitude);
  * bits. The output then starts with the packed words, STUMPVESSEL_PACKED_BYTES(list_bytes / 8, width)
  * bytes, least bit first; its later bytes stay as they were.
  *
- * list_bytes is not the number of words. Whoever passes that packs only an eighth of them, and the
- * answer is still 0 where it is a multiple of 8: no call can know that more was meant.
+ * list_bytes is not the number of words. Whoever passes that, where it is a multiple of 8, packs only
+ * an eighth of them and is answered 0 for it: no call can know that more was meant.
  *
  * Answers 0, or the first of these that holds: STUMPVESSEL_BAD_WIDTH where the width is above 64,
  * STUMPVESSEL_OUT_OF_DATA where list_bytes is not a multiple of 8, STUMPVESSEL_TOO_WIDE where a
