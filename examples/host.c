@@ -6,24 +6,6 @@
 
 #define TERMS 8
 
-static const char *name_of(uint8_t answer)
-{
-    switch (answer) {
-    case STUMPVESSEL_DONE:
-        return "done";
-    case STUMPVESSEL_BAD_WIDTH:
-        return "BadWidth";
-    case STUMPVESSEL_TOO_WIDE:
-        return "TooWide";
-    case STUMPVESSEL_OUT_OF_DATA:
-        return "OutOfData";
-    case STUMPVESSEL_NO_ROOM:
-        return "NoRoom";
-    default:
-        return "unknown";
-    }
-}
-
 static void put_word(uint8_t *bytes, uint64_t word)
 {
     int i;
@@ -45,10 +27,10 @@ int main(void)
     const uint64_t terms[TERMS] = {12, 24, 0, 6, 36, 12, 1, 24};
     const uint64_t longest = 36;
     uint8_t list[8 * TERMS];
-    uint8_t column[8 * TERMS];
+    uint8_t column[STUMPVESSEL_PACKED_BYTES(TERMS, 64)]; /* enough at any width */
     uint8_t value[8];
     uint8_t width = stumpvessel_width(longest);
-    size_t size = (TERMS * (size_t)width + 7) / 8;
+    size_t size = STUMPVESSEL_PACKED_BYTES(TERMS, width);
     uint8_t answer;
     int i;
 
@@ -56,17 +38,20 @@ int main(void)
         put_word(list + 8 * i, terms[i]);
 
     answer = stumpvessel_pack(list, sizeof list, width, column, sizeof column);
-    printf("%d terms at %d bits into %zu bytes: %s\n", TERMS, width, size, name_of(answer));
+    printf("%d terms at %d bits into %zu bytes: %s\n", TERMS, width, size,
+           stumpvessel_refusal_name(answer));
     if (answer != STUMPVESSEL_DONE)
         return 1;
 
     answer = stumpvessel_read(column, size, width, 4, value, sizeof value);
-    printf("the term of diver 4: %s, %" PRIu64 " months\n", name_of(answer), get_word(value));
+    printf("the term of diver 4: %s, %" PRIu64 " months\n", stumpvessel_refusal_name(answer),
+           get_word(value));
 
     answer = stumpvessel_read(column, size, width, TERMS, value, sizeof value);
-    printf("the term of diver %d: refused %d, %s\n", TERMS, answer, name_of(answer));
+    printf("the term of diver %d: refused %d, %s\n", TERMS, answer,
+           stumpvessel_refusal_name(answer));
 
     answer = stumpvessel_pack(list, sizeof list, 5, column, sizeof column);
-    printf("the same terms at 5 bits: refused %d, %s\n", answer, name_of(answer));
+    printf("the same terms at 5 bits: refused %d, %s\n", answer, stumpvessel_refusal_name(answer));
     return 0;
 }

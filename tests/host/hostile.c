@@ -1,7 +1,8 @@
 /*
  * Calls the three functions with random and edge arguments, beside a plain statement of document 01
  * written apart from the port, bit by bit. Every answer, every byte of every buffer and every guard
- * byte around them is compared.
+ * byte around them is compared. Before that, what the header has besides the functions: its numbers,
+ * names and sizes.
  *
  *     hostile CALLS SEED
  *
@@ -13,6 +14,17 @@
 #include <string.h>
 
 #include "stumpvessel.h"
+
+/* What is tested of the header by itself; tests/host/run puts faults in the place of these. */
+#ifndef PACKED_BYTES
+#define PACKED_BYTES STUMPVESSEL_PACKED_BYTES
+#endif
+#ifndef REFUSAL_NAME
+#define REFUSAL_NAME stumpvessel_refusal_name
+#endif
+#ifndef VERSION
+#define VERSION STUMPVESSEL_VERSION
+#endif
 
 /* With EXACT the memory ends where a buffer does, so that a tool that watches memory sees a read past it. */
 #ifdef EXACT
@@ -161,6 +173,76 @@ static uint8_t stated_read(const struct lent *column, uint8_t width, uint32_t in
     return 0;
 }
 
+/* ---- the header by itself */
+
+/* values * width can need more than 64 bits. */
+__extension__ typedef unsigned __int128 wide;
+
+static unsigned long sizes;
+
+/* Of so many values at every width: the size that is stated, ceil(values * width / 8), wherever that is a size_t. */
+static int sizes_hold(size_t values)
+{
+    int width;
+    for (width = 0; width <= 64; width++) {
+        wide bits = (wide)values * (wide)width, stated = bits / 8 + (bits % 8 != 0);
+        if (stated > SIZE_MAX)
+            continue;
+        sizes++;
+        /* The sums and the product tell a macro that does not keep its arguments, or itself, together. */
+        if (3 * PACKED_BYTES(values - 1 + 1, width - 1 + 1) != (size_t)(3 * stated)) {
+            printf("%zu values at width %d: %zu bytes\n", values, width, PACKED_BYTES(values, width));
+            return 0;
+        }
+    }
+    return 1;
+}
+
+static int try_sizes(void)
+{
+    /* no list of words has more */
+    const size_t largest = SIZE_MAX / 8;
+    size_t i;
+    int power;
+    for (i = 0; i <= 5000; i++)
+        if (!sizes_hold(i) || !sizes_hold(largest - i) || !sizes_hold(SIZE_MAX - i) ||
+            !sizes_hold((size_t)word() >> below(64)))
+            return 0;
+    for (power = 0; power < 64; power++)
+        if (!sizes_hold(((size_t)1 << power) - 1) || !sizes_hold((size_t)1 << power) ||
+            !sizes_hold(((size_t)1 << power) + 1))
+            return 0;
+    return 1;
+}
+
+static int try_names(void)
+{
+    static const char *const names[] = {"done",   "BadWidth",    "TooWide", "OutOfData", "NoRoom", "EntriesFull",
+                                        "Closed", "NoSuchIndex", "Damaged"};
+    static const int numbers[] = {STUMPVESSEL_DONE,        STUMPVESSEL_BAD_WIDTH,     STUMPVESSEL_TOO_WIDE,
+                                  STUMPVESSEL_OUT_OF_DATA, STUMPVESSEL_NO_ROOM,       STUMPVESSEL_ENTRIES_FULL,
+                                  STUMPVESSEL_CLOSED,      STUMPVESSEL_NO_SUCH_INDEX, STUMPVESSEL_DAMAGED};
+    int answer;
+    for (answer = 0; answer < 256; answer++) {
+        const char *stated = answer < 9 ? names[answer] : "unknown";
+        if (strcmp(REFUSAL_NAME((uint8_t)answer), stated) != 0 || (answer < 9 && numbers[answer] != answer)) {
+            printf("%d has the name %s, stated %s\n", answer, REFUSAL_NAME((uint8_t)answer), stated);
+            return 0;
+        }
+    }
+    return 1;
+}
+
+static int try_version(void)
+{
+    char stated[64];
+    snprintf(stated, sizeof stated, "%d.%d.%d", STUMPVESSEL_VERSION_MAJOR, STUMPVESSEL_VERSION_MINOR, STUMPVESSEL_VERSION_PATCH);
+    if (strcmp(stated, VERSION) == 0)
+        return 1;
+    printf("version %s, by its numbers %s\n", VERSION, stated);
+    return 0;
+}
+
 /* ---- the calls */
 
 static unsigned long counts[3][5];
@@ -245,6 +327,11 @@ int main(int argc, char **argv)
     }
     calls = strtoul(argv[1], NULL, 10);
     state = strtoul(argv[2], NULL, 10);
+    if (!try_sizes() || !try_names() || !try_version()) {
+        printf("the header by itself, seed %s\n", argv[2]);
+        return 1;
+    }
+    printf("header %lu sizes, 256 names, version %s\n", sizes, VERSION);
     for (i = 0; i < calls; i++) {
         size_t which = below(10);
         if (!(which == 0 ? try_width() : which < 5 ? try_pack() : try_read())) {

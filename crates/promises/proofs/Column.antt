@@ -4,14 +4,14 @@ use mathlib.Core.Path.{_≡_, refl, sym, ap, ap₂, _∙_, subst}
 use mathlib.Core.Logic.{⊎-elim}
 use mathlib.Core.Bool.{true}
 use mathlib.Core.List.{List, [], _∷_, _++_}
-use Prim.Native.Nat.{ℕ, zero, suc, _+_, _-_, _*_, _^_, _≤_, _<_}
+use Prim.Native.Nat.{ℕ, zero, suc, _+_, _-_, _*_, _≤_, _<_}
 use native.Mathlib.Nat.{zero-add, mul-le-mul-right}
 use native.Mathlib.Omega.{arith}
 use lib.Dec.{eqb·suc-zero}
 use lib.ListN.{length, getD, take, drop, length-append}
 use lib.Seq.{take-at, drop-at, take-all}
 use borrow.Author.Tests.{le-leb, le-ltb, lt-leb, eq-eqb}
-use Rattle.bit_rule.specs.Bytes.{AreBytes, number, bytesFor}
+use Rattle.bit_rule.specs.Bytes.{bytesFor}
 use Rattle.bit_rule.specs.Width.{legalWidth}
 use Rattle.bit_rule.specs.Stream.{totalBits, Fit, ofWidth, streamBytes}
 use Rattle.bit_rule.specs.Place.{valuesFrom}
@@ -27,8 +27,8 @@ use Rattle.bitunpacker.specs.declared.Got.the-variants.{Value}
 use Rattle.bitunpacker.specs.declared.Filled.the-variants.{Done}
 use Rattle.bitunpacker.specs.declared.Found.the-variants.{Ids}
 use Rattle.bitunpacker.specs.Unpacker.{unpackerOf, maskOf, getOf, range, getRangeOf, Search, search, idsOf, searchOf}
-use Rattle.promises.specs.Reply.{writtenAnswer, emits, gotReply, filledAnswer, foundAnswer}
-use Rattle.promises.specs.Column.{stretch, ReadsAs, PackedAndRead, packedAgain}
+use Rattle.promises.specs.Reply.{writtenAnswer, gotReply, filledAnswer, foundAnswer}
+use Rattle.promises.specs.Column.{stretch, ReadsAs, PackedAndRead, ReadAndPacked}
 
 -- a search that writes these ids
 foundIds : List ℕ → List ℕ → Search
@@ -128,9 +128,7 @@ narrow : (w : ℕ) (vs : List ℕ) → w ≤ 64 → Narrow (ofWidth w vs)
 narrow w [] small = tt
 narrow w (v ∷ vs) small = (small, narrow w vs small)
 
--- What is packed is what is read: at a legal width, for values that fit it and an output that has room for their bytes.
-pub packed-and-read : (w : ℕ) (vs output : List ℕ) → legalWidth w ≡ true → Fit (ofWidth w vs) → bytesFor (length vs * w) ≤ length output
-    → PackedAndRead w vs output
+pub packed-and-read : PackedAndRead
 packed-and-read w vs output legal fit room =
     let ps = ofWidth w vs in
     let bits : totalBits ps ≡ length vs * w = totalBits-ofWidth w vs in
@@ -161,16 +159,14 @@ module _ (w : ℕ) (bytes : List ℕ) (legal : legalWidth w ≡ true) where
       let same : (0 + n) * w ≡ n * w = ap (λ k. k * w) (zero-add n) in
       rw (legal, eq-eqb (maskOf w) (maskOf w) refl, eqb·suc-zero (length out), le-leb ((0 + n) * w) (8 * length bytes) (omega arith))
 
-  -- What is read is what was packed: n values' bytes whose spare high bits are 0, read at their width and packed again, are those bytes.
-  pub read-and-packed : (out output : List ℕ) → AreBytes bytes → length bytes ≡ bytesFor (length out * w) → number bytes < 2 ^ (length out * w)
-      → length bytes ≤ length output → writtenAnswer (packedAgain w bytes out output) ≡ emits (length bytes) (atStart bytes output)
-  read-and-packed out output are-bytes size spare room =
-      let n = length out in
-      let vs = valuesFrom w 0 n bytes in
-      let ps = ofWidth w vs in
-      let taken : bytesFor (totalBits ps) ≡ length bytes =
-      ap bytesFor (totalBits-ofWidth w vs ∙ ap (λ k. k * w) (length-valuesFrom w 0 n bytes)) ∙ sym size in
-      ap writtenAnswer
-      (ap (λ l. packOf (ofWidth w l) output) (filled out size)
-      ∙ pack-all ps output (read-fits w 0 n bytes) (narrow w vs (legal-le w legal)) (omega arith)
-      ∙ ap₂ (λ k l. outcome (Emitted fresh k) (l ++ drop k output)) taken (column-of-read w n bytes are-bytes size spare))
+pub read-and-packed : ReadAndPacked
+read-and-packed w bytes out output legal are-bytes size spare room =
+    let n = length out in
+    let vs = valuesFrom w 0 n bytes in
+    let ps = ofWidth w vs in
+    let taken : bytesFor (totalBits ps) ≡ length bytes =
+    ap bytesFor (totalBits-ofWidth w vs ∙ ap (λ k. k * w) (length-valuesFrom w 0 n bytes)) ∙ sym size in
+    ap writtenAnswer
+    (ap (λ l. packOf (ofWidth w l) output) (filled w bytes legal out size)
+    ∙ pack-all ps output (read-fits w 0 n bytes) (narrow w vs (legal-le w legal)) (omega arith)
+    ∙ ap₂ (λ k l. outcome (Emitted fresh k) (l ++ drop k output)) taken (column-of-read w n bytes are-bytes size spare))

@@ -17,7 +17,7 @@ ghost use Rattle.bit_rule.specs.Stream.{ofWidth};
 ghost use Rattle.bit_rule.specs.Place.{valueAt};
 ghost use Rattle.bit_rule.specs.Width.{widthOf};
 ghost use Rattle.bitpacker.proofs.Run.{packed};
-ghost use Rattle.host.specs.Host.{answered, wordsOf, anyTooWide, packListOf, putOf, readOf};
+ghost use Rattle.stumpvessel.specs.Host.{answered, wordsOf, anyTooWide, packListOf, putOf, readOf};
 
 // The width of an amplitude.
 #[no_mangle]

@@ -2,11 +2,11 @@
 use mathlib.Core.Path.{_≡_, sym, ap, _∙_}
 use mathlib.Core.Bool.{false}
 use native.Mathlib.Omega.{arith}
-use Rattle.host.specs.Host.{answered, wordsOf, anyTooWide}
-use Rattle.host.proofs.Calls.{pack-bad-width, pack-odd, pack-too-wide, pack-no-room, pack-done}
+use Rattle.stumpvessel.specs.Host.{answered, wordsOf, anyTooWide}
+use Rattle.stumpvessel.proofs.Calls.{pack-bad-width, pack-odd, pack-too-wide, pack-no-room, pack-done}
 use borrow.Author.Needs.{needs}
-use Rattle.host.proofs.stumpvessel_pack.Statement.{statement}
-use Rattle.host.proofs.stumpvessel_pack.Tie as tie
+use Rattle.stumpvessel.proofs.stumpvessel_pack.Statement.{statement}
+use Rattle.stumpvessel.proofs.stumpvessel_pack.Tie as tie
 
 abbrev start-of : tie.Else1 → tie.Start
 start-of c = c .before .before .before

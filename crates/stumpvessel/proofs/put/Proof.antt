@@ -2,11 +2,11 @@
 use mathlib.Core.Path.{_≡_, sym, ap, _∙_}
 use Rattle.bitpacker.specs.declared.Written.{Written}
 use Rattle.bitpacker.specs.Packer.{outcome, fresh, writeOf}
-use Rattle.host.specs.Host.{answered, putOf}
-use Rattle.host.proofs.Calls.{numbered, put-law}
+use Rattle.stumpvessel.specs.Host.{answered, putOf}
+use Rattle.stumpvessel.proofs.Calls.{numbered, put-law}
 use borrow.Author.Needs.{needs}
-use Rattle.host.proofs.put.Statement.{statement}
-use Rattle.host.proofs.put.Tie as tie
+use Rattle.stumpvessel.proofs.put.Statement.{statement}
+use Rattle.stumpvessel.proofs.put.Tie as tie
 
 -- what `write` answered and left
 after-write : (c : tie.After-write) (answer : Written) → c .write .result ≡ answer

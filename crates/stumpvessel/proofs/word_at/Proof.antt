@@ -7,10 +7,10 @@ use Rattle.bitunpacker.specs.declared.Got.{Got}
 use Rattle.bitunpacker.specs.declared.Got.the-variants.{Value}
 use Rattle.bitunpacker.specs.declared.Made.the-variants.{Refused as NotMade}
 use Rattle.block.proofs.Reading.{new-says}
-use Rattle.host.proofs.Words.{word-of-part}
+use Rattle.stumpvessel.proofs.Words.{word-of-part}
 use borrow.Author.Needs.{needs}
-use Rattle.host.proofs.word_at.Statement.{statement}
-use Rattle.host.proofs.word_at.Tie as tie
+use Rattle.stumpvessel.proofs.word_at.Statement.{statement}
+use Rattle.stumpvessel.proofs.word_at.Tie as tie
 
 -- what `get` answered
 after-get : (c : tie.After-get) (answer : Got) → c .get .result ≡ answer

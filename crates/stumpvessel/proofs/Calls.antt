@@ -26,8 +26,8 @@ use Rattle.bitunpacker.specs.declared.Got.{Got}
 use Rattle.bitunpacker.specs.declared.Got.the-variants.{Value, Refused as NotGot}
 use Rattle.bitunpacker.specs.Unpacker.{maskOf, newOf, getOf}
 use Rattle.block.proofs.Reading.{new-says}
-use Rattle.host.specs.Host.{Answered, answered, refuses, wordsOf, anyTooWide, packListOf, putOf, readOf}
-use Rattle.host.proofs.Words.{length-wordsOf}
+use Rattle.stumpvessel.specs.Host.{Answered, answered, refuses, wordsOf, anyTooWide, packListOf, putOf, readOf}
+use Rattle.stumpvessel.proofs.Words.{length-wordsOf}
 
 -- ---- a value of 64 bits
 

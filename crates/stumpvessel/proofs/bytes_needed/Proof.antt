@@ -1,8 +1,8 @@
 -- Eight words take `width` bytes, so the sum is of whole eighths and of a rest below eight words; both parts are small enough.
 use native.Mathlib.Omega.{arith}
 use Rattle.bitunpacker.proofs.Laws.{column-law, column-fits, lead-fits}
-use Rattle.host.proofs.bytes_needed.Statement.{statement}
-use Rattle.host.proofs.bytes_needed.Tie as tie
+use Rattle.stumpvessel.proofs.bytes_needed.Statement.{statement}
+use Rattle.stumpvessel.proofs.bytes_needed.Tie as tie
 
 mul-result : tie.Need-mul-result
 mul-result c = omega (arith, column-fits (c .args .n) (c .args .width) (c .pre .0) (c .pre .1))

@@ -13,10 +13,10 @@ use Rattle.bitpacker.specs.Packer.{outcome, writeOf}
 use Rattle.bitpacker.proofs.Run.{packed}
 use Rattle.bit_rule.proofs.Parts.{restFrom}
 use Rattle.block.proofs.Packing.{Packing, pieces, packing-starts, place-within, packing-goes-on, packing-not-refused, packing-ends}
-use Rattle.host.specs.Host.{wordsOf}
-use Rattle.host.proofs.Words.{length-wordsOf, getD-wordsOf, differences-zero, none-wide-fit}
-use Rattle.host.proofs.pack.Statement.{statement}
-use Rattle.host.proofs.pack.Tie as tie
+use Rattle.stumpvessel.specs.Host.{wordsOf}
+use Rattle.stumpvessel.proofs.Words.{length-wordsOf, getD-wordsOf, differences-zero, none-wide-fit}
+use Rattle.stumpvessel.proofs.pack.Statement.{statement}
+use Rattle.stumpvessel.proofs.pack.Tie as tie
 
 abbrev Inv-loop : tie.InvT-loop
 Inv-loop list width output₀ count packer₀ at₀ i₀ output packer at i = Packing 0 width (wordsOf list) output₀ i packer at output

@@ -21,7 +21,7 @@ use Rattle.bitunpacker.specs.declared.Got.the-variants.{Value}
 use Rattle.bitunpacker.specs.Unpacker.{newOf, getOf}
 use Rattle.block.specs.Block.{differences}
 use Rattle.block.proofs.Reading.{new-says}
-use Rattle.host.specs.Host.{wordsOf, anyTooWide}
+use Rattle.stumpvessel.specs.Host.{wordsOf, anyTooWide}
 
 -- ---- one word
 

@@ -6,10 +6,10 @@ use native.Mathlib.Omega.{arith}
 use lib.Dec.{leb}
 use lib.ListN.{length, getD, take}
 use lib.Seq.{take-all}
-use Rattle.host.specs.Host.{wordsOf, anyTooWide}
-use Rattle.host.proofs.Words.{length-wordsOf, getD-wordsOf, any-next, any-at}
-use Rattle.host.proofs.has_too_wide.Statement.{statement}
-use Rattle.host.proofs.has_too_wide.Tie as tie
+use Rattle.stumpvessel.specs.Host.{wordsOf, anyTooWide}
+use Rattle.stumpvessel.proofs.Words.{length-wordsOf, getD-wordsOf, any-next, any-at}
+use Rattle.stumpvessel.proofs.has_too_wide.Statement.{statement}
+use Rattle.stumpvessel.proofs.has_too_wide.Tie as tie
 
 abbrev Inv-loop : tie.InvT-loop
 Inv-loop list width words i₀ i = anyTooWide width (take i (wordsOf list)) ≡ false

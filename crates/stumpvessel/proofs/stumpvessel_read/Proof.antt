@@ -1,11 +1,11 @@
 -- What `new` answers says whether the width is legal. Where it is, what `get` answers is put or refused as the definition says.
 use mathlib.Core.Path.{_≡_, sym, ap, _∙_}
 use Rattle.bitunpacker.specs.declared.Got.{Got}
-use Rattle.host.specs.Host.{answered, readOf}
-use Rattle.host.proofs.Calls.{read, read-made, read-not-made}
+use Rattle.stumpvessel.specs.Host.{answered, readOf}
+use Rattle.stumpvessel.proofs.Calls.{read, read-made, read-not-made}
 use borrow.Author.Needs.{needs}
-use Rattle.host.proofs.stumpvessel_read.Statement.{statement}
-use Rattle.host.proofs.stumpvessel_read.Tie as tie
+use Rattle.stumpvessel.proofs.stumpvessel_read.Statement.{statement}
+use Rattle.stumpvessel.proofs.stumpvessel_read.Tie as tie
 
 -- what `get` answered, put or refused, is the definition
 after-get : (c : tie.After-get) (answer : Got) → c .get .result ≡ answer
