@@ -18,13 +18,13 @@ use Rattle.decimal.specs.Digits.{firstOther, numeral, numberOrTooLarge, readOf}
 use Rattle.decimal.specs.Line.{withoutCr}
 use Rattle.promises.specs.Reply.{values, doneReply}
 use Rattle.promises.specs.Defined.{Held, held}
-use Rattle.promises.specs.Histories.{Call, add, count, outcomeOf, replyOf, leftBy, begun, after, taken, accepted, WordsAdded, History}
+use Rattle.promises.specs.Histories.{Call, add, count, get, outcomeOf, replyOf, leftBy, begun, after, taken, accepted, WordsAdded, History}
 use Rattle.promises.specs.Promises.{Found}
 use Rattle.promises.proofs.Promises.{what-was-added-is-what-is-read, nobody-is-missing}
 use Rattle.terms.specs.declared.Trouble.{Trouble}
 use Rattle.terms.specs.declared.Trouble.the-variants.{Nothing, Empty, NotADigit, TooLarge, Refused, Cut, NoLine}
 use Rattle.terms.specs.Loading.{isTrouble, Ended}
-use Rattle.terms.specs.Text.{linesOf, restOf, numbersOf, stop, afterAnswer, afterLine, withoutEnd, afterLast, loadLines, onNew, loadOf, adds, Holds, TheStoreHoldsTheNumbers, TheCountIsTheLines, NobodyInTheTextIsMissing}
+use Rattle.terms.specs.Text.{linesOf, restOf, numbersOf, stop, afterAnswer, afterLine, withoutEnd, afterLast, loadLines, onNew, loadOf, adds, Holds, TheStoreHoldsTheNumbers, TheCountIsTheLines, WhatIsInTheTextIsRead, NobodyInTheTextIsMissing}
 use Rattle.terms.proofs.Adding.{addLineIn, accepted-is-add}
 
 -- ---- the number of a line
@@ -217,6 +217,17 @@ the-count-is-the-lines text bytes entries room nothing =
           ∙ ap (λ n. values (n ∷ [])) (ap length all-calls ∙ one-a-line),
       sym (all .one-a-line) ∙ ap length (all .whole nothing) ∙ one-a-line,
     )
+
+pub what-is-in-the-text-is-read : WhatIsInTheTextIsRead
+unfolding heldOf
+what-is-in-the-text-is-read text bytes entries room nothing i inside =
+    let numbers-are = its-numbers text bytes entries room nothing in
+    let among : i < length (numbersOf text) = omega (arith, length-map (linesOf text) numeral, inside) in
+    let read =
+    what-was-added-is-what-is-read bytes entries (its-adds text bytes entries room nothing) [] (its-history text bytes entries room nothing) .1 .one i in
+    ap (replyOf (get i)) (sym (its-store text bytes entries room nothing))
+    ∙ read (subst (λ vs. i < length vs) (sym numbers-are) among)
+    ∙ ap (λ vs. values (getD vs i 0 ∷ [])) numbers-are
 
 pub nobody-in-the-text-is-missing : NobodyInTheTextIsMissing
 unfolding heldOf

@@ -4,7 +4,7 @@ use mathlib.Core.Path.{_≡_}
 use mathlib.Core.Bool.{Bool, true, false, _&&_, _||_, cond}
 use mathlib.Core.List.{List, [], _∷_, _++_, map}
 use lib.Dec.{eqb}
-use lib.ListN.{length, take}
+use lib.ListN.{length, getD, take}
 use Rattle.blocked_bitpacker.specs.declared.BlockedBitpacker.{BlockedBitpacker}
 use Rattle.blocked_bitpacker.specs.declared.Done.{Done}
 use Rattle.blocked_bitpacker.specs.declared.Done.the-variants.{Accepted, Refused as NotDone}
@@ -15,7 +15,7 @@ use Rattle.decimal.specs.Digits.{numeral, readOf}
 use Rattle.decimal.specs.Line.{withoutCr}
 use Rattle.promises.specs.Defined.{Held, held}
 use Rattle.promises.specs.Reply.{values}
-use Rattle.promises.specs.Histories.{Call, add, count, replyOf, begun, after, accepted, History}
+use Rattle.promises.specs.Histories.{Call, add, count, get, replyOf, begun, after, accepted, History}
 use Rattle.promises.specs.Promises.{Found}
 use Rattle.terms.specs.declared.Trouble.{Trouble}
 use Rattle.terms.specs.declared.Trouble.the-variants.{Nothing, Empty, NotADigit, TooLarge, Refused, Cut, NoLine}
@@ -151,6 +151,14 @@ TheCountIsTheLines =
     → let r = loadOf text bytes entries in
     (replyOf count (held (r .loaded .store) (r .bytes) (r .entries)) ≡ values (length (linesOf text) ∷ []))
     × (r .loaded .lines ≡ length (linesOf text))
+
+-- Of a text that nothing stopped: the value that is read at an index is the number of the line with that index, counted from 0.
+abbrev pub WhatIsInTheTextIsRead : Type 0
+WhatIsInTheTextIsRead =
+    (text bytes entries : List ℕ) → 8 ≤ length bytes → loadOf text bytes entries .loaded .trouble ≡ Nothing
+    → (i : ℕ) → i < length (linesOf text)
+    → let r = loadOf text bytes entries in
+    replyOf (get i) (held (r .loaded .store) (r .bytes) (r .entries)) ≡ values (getD (numbersOf text) i 0 ∷ [])
 
 -- Of a text that nothing stopped: a search of the store lists exactly the lines, counted from 0, whose number lies in the interval.
 abbrev pub NobodyInTheTextIsMissing : Type 0
