@@ -130,9 +130,10 @@ def stand_in(folder, body):
     program.parent.mkdir(parents=True)
     program.write_text('#!/bin/bash\n' + body)
     program.chmod(0o755)
-    total = subprocess.run('find crates crates.txt -type f -print0 | LC_ALL=C sort -z | xargs -0 cat | sha256sum', shell=True,
+    total = subprocess.run('find crates crates.txt -type f -print0 | LC_ALL=C sort -z | xargs -0 sha256sum | sha256sum', shell=True,
                            cwd=folder, stdout=subprocess.PIPE, check=True).stdout.decode()
-    (folder / 'target/column.built').write_text(total + 'a toolchain that is not here\n\n')
+    program_sum = subprocess.run('sha256sum <target/bin/column', shell=True, cwd=folder, stdout=subprocess.PIPE, check=True).stdout.decode()
+    (folder / 'target/column.built').write_text(total + program_sum + 'a toolchain that is not here\n\n')
     return column
 
 
@@ -241,6 +242,11 @@ def building(folder):
             'column: 2 of 2 proved: column (unchanged since it was last proved)\n', 0))
     expect('a second call does not', run(words, command=[str(column)], env=env), ('row\n', '', 0))
     expect('nor one without the toolchain', run(words, command=[str(column)], env={'PATH': PLAIN_PATH}), ('row\n', '', 0))
+    program = folder / 'builds/target/bin/column'
+    good = program.read_text()
+    program.write_text(good.replace('row', 'another'))
+    expect('another program in its place', run(words, command=[str(column)], env={'PATH': PLAIN_PATH}), ('', NO_TOOLCHAIN, 3))
+    program.write_text(good)
     (folder / 'builds/crates/new').write_text('a source\n')
     expect('a changed source, without the toolchain', run(words, command=[str(column)], env={'PATH': PLAIN_PATH}), ('', NO_TOOLCHAIN, 3))
     out, err, status = run(words, command=[str(column)], env={**env, 'TMPDIR': '/nowhere/tmp'})

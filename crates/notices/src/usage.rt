@@ -20,6 +20,7 @@ fn page(fd: i32) -> bool {
 TERMS is a text file of one decimal number a line, each line with its line end, and at most 131072 of them.
 The number of id N stands on line N + 1: that of id 0 on the first line.
 LO and HI are both included. With FROM and TO, only ids from FROM to before TO are looked at: TO is not included.
+A list ends with `K of N`: K ids were found, N were looked at. A file that was cut between two lines shows only there.
 Call it by its path, as ./column: the command column of most machines is another program.
 
 Its status:
