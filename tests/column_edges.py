@@ -13,7 +13,7 @@ NOT_WRITTEN = 'refused 22 NotWritten: the answer could not be written in full; w
 NO_STATUS = 'column: the program ended without saying its status: what was printed is not to be used\n'
 NO_TOOLCHAIN = ('column: the program is not built, and without the Rattle toolchain (the command rt) it cannot be: '
                 'README.md says more\n')
-WRONG = 'usage: word 1 is none of list, get, show, help\n./column help says how it is called\n'
+WRONG = 'usage: word 1 is none of list, get, show, help, --version\n./column help says how it is called\n'
 
 
 def fresh_clone(folder):
@@ -102,6 +102,9 @@ def environments(folder):
         ('TMPDIR unwritable', {'TMPDIR': str(unwritable)}),
         ('no rt on the PATH', {'PATH': PLAIN_PATH}),
         ('no HOME', {'HOME': None}),
+        ('no PATH', {'PATH': ''}),
+        ('a time for every read', {'TMOUT': '1'}),
+        ('names of the script', {'BASH_SOURCE': '/nowhere/column', 'channel': '0', 'in': '0', 'out': '1', 'said': '0', 'started': 'one', 'IFS': '0'}),
     ):
         (folder / 'words-of-its-own').write_text('echo words; exec 3>&1; exit 0\n')
         for what, words, wanted in (
@@ -112,6 +115,13 @@ def environments(folder):
             out, err, status = run(words, env=env)
             # What the shell or the loader says of the environment comes first, and passes.
             expect(f'{name}, {what}', (out, err[len(err) - len(wanted[1]):], status), wanted)
+    expect('descriptor 3 as the file', shell('./column get /dev/fd/3 0 3<examples/terms.txt'), ('2\n', '', 0))
+    expect('read by another shell', run(['column', 'get', 'examples/terms.txt', '0'], command=['dash']), ('', 'column: call it as ./column\n', 3))
+    shutil.copy(COLUMN, folder / 'copied')
+    expect('copied elsewhere', run(['help'], command=[str(folder / 'copied')]),
+           ('', 'column: it works from within its repository only: call it there by its path, or make a link to it\n', 3))
+    (folder / 'link').symlink_to(COLUMN)
+    expect('by a link', run(['get', str(TOP / 'examples/terms.txt'), '0'], command=[str(folder / 'link')], cwd=folder), ('2\n', '', 0))
     out, err, status = run(['-x', str(COLUMN), 'list', str(bad), '1', '3'], command=['bash'])
     expect('bash -x', (out, err.count(sentence), status), ('', 1, 1))
     if os.getuid() == 0:
@@ -140,19 +150,19 @@ def stand_in(folder, body):
 def channel(folder):
     no_status = ('row\n', NO_STATUS, 4)
     for number, (body, wanted) in enumerate((
-        ('printf 0 >&3', ('row\n', '', 0)),
-        ('printf 1 >&3', ('row\n', '', 1)),
-        ('printf 2 >&3', ('row\n', '', 2)),
+        ('printf 0 >&29', ('row\n', '', 0)),
+        ('printf 1 >&29', ('row\n', '', 1)),
+        ('printf 2 >&29', ('row\n', '', 2)),
+        ('printf 1 >&29; exit 1', ('row\n', '', 1)),
         ('', no_status),
         ('exit 1', no_status),
-        ('printf 3 >&3', no_status),
-        ('printf 00 >&3', no_status),
-        ('printf 01 >&3', no_status),
-        ('printf "0\\n" >&3', no_status),
-        ('printf "0\\0" >&3', no_status),
-        ('printf x >&3', no_status),
-        ('printf 0 >&3; exit 1', no_status),
-        ('printf 0 >&3; kill -KILL $$', no_status),
+        ('printf 3 >&29', no_status),
+        ('printf 00 >&29', no_status),
+        ('printf 01 >&29', no_status),
+        ('printf "0\\n" >&29', no_status),
+        ('printf "0\\0" >&29', no_status),
+        ('printf x >&29', no_status),
+        ('printf 0 2>/dev/null >&3', no_status),
         ('kill -KILL $$', no_status),
         ('kill -PIPE $$; kill -TERM $$', no_status),
         ('printf 0; printf 0 >&2', ('row\n0', '0' + NO_STATUS, 4)),
@@ -202,15 +212,16 @@ def command_of(pid):
 
 
 def ended(folder):
-    for name, number in (('TERM', signal.SIGTERM), ('HUP', signal.SIGHUP), ('INT', signal.SIGINT)):
+    for name, number in (('TERM', signal.SIGTERM), ('HUP', signal.SIGHUP), ('INT', signal.SIGINT), ('USR1', signal.SIGUSR1)):
         call, programs = waiting_call(folder)
         os.kill(call.pid, number)
         expect(f'ended by {name}', finished(call), ('', '', -number))
         expect_that(f'ended by {name}', programs and until(lambda: not any(map(is_there, programs))), 'the program goes on')
-    call, programs = waiting_call(folder)
-    os.killpg(call.pid, signal.SIGINT)
-    expect('Ctrl-C', finished(call), ('', '', -signal.SIGINT))
-    expect_that('Ctrl-C', programs and until(lambda: not any(map(is_there, programs))), 'the program goes on')
+    for name, number, wanted in (('Ctrl-C', signal.SIGINT, -signal.SIGINT), ('Ctrl-\\', signal.SIGQUIT, 128 + signal.SIGQUIT)):
+        call, programs = waiting_call(folder)
+        os.killpg(call.pid, number)
+        expect(name, finished(call), ('', '', wanted))
+        expect_that(name, programs and until(lambda: not any(map(is_there, programs))), 'the program goes on')
     call, programs = waiting_call(folder)
     for program in programs:
         os.kill(program, signal.SIGKILL)
@@ -227,8 +238,9 @@ def toolchain(folder, body):
     return {'PATH': f'{folder}:{PLAIN_PATH}'}
 
 
-PROGRAM = "mkdir -p target/bin; printf '#!/bin/bash\\necho row; printf 0 >&3\\n' >target/bin/column; chmod +x target/bin/column\n"
-PROVED = 'echo "rt: bit_rule proved (2 s)"; echo "other"; echo "rt: column proved (unchanged since it was last proved)"\n'
+PROGRAM = "mkdir -p target/bin; printf '#!/bin/bash\\necho row; printf 0 >&29\\n' >target/bin/column; chmod +x target/bin/column\n"
+PROVED = ('echo "rt: bit_rule proved (2 s)"; echo "other"; echo "rt: column proved (unchanged since it was last proved)"; '
+          'echo "rt: ok, 2 crates proved"\n')
 
 
 def building(folder):
@@ -256,7 +268,22 @@ def building(folder):
     env = toolchain(folder / 'rt-fails', 'echo "rt: bit_rule proved (2 s)"; echo "rt: terms NOT PROVED"; exit 1\n')
     out, err, status = run(words, command=[str(column)], env=env)
     expect('what is not proved is not run', (out, err.splitlines()[-2:], status),
-           ('', ['rt: terms NOT PROVED', 'column: the program could not be built: target/column.log says why'], 3))
+           ('', ['rt: terms NOT PROVED', 'column: the program could not be built: target/column.log says more'], 3))
+
+    # A program of older sources is there: what the environment has for the shell does not make it this one's.
+    (folder / 'fails/target/bin').mkdir()
+    (folder / 'fails/target/bin/column').write_text('#!/bin/bash\necho old; printf 0 >&29\n')
+    (folder / 'fails/target/bin/column').chmod(0o755)
+    (folder / 'leave').write_text('exit 0\n')
+    for name, more in (('a file for the shell', {'BASH_ENV': str(folder / 'leave')}), ('a function', {'BASH_FUNC_rt%%': '() { :; }'})):
+        out, err, status = run(words, command=[str(column)], env={**env, **more})
+        expect(f'an older program is not run, {name}', (out, err.splitlines()[-1:], status),
+               ('', ['column: the program could not be built: target/column.log says more'], 3))
+
+    column = fresh_clone(folder / 'silent')
+    for name, ending in (('closed', '2>&-'), ('full', '2>/dev/full')):
+        (folder / 'silent/crates/source').write_text(name)
+        expect(f'a build with standard error {name}', shell(f'{column} list x 1 3 {ending}', env=toolchain(folder / f'rt-{name}', PROVED + PROGRAM)), ('row\n', '', 0))
 
     column = fresh_clone(folder / 'unwritable-clone')
     if os.getuid() == 0:

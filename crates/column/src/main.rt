@@ -4,13 +4,13 @@ use libc::STDERR_FILENO;
 use libc::STDOUT_FILENO;
 
 // Where the status is said, to a caller whose first word asks for it: a program of this language has no exit status.
-const STATUS_FILENO: i32 = 3;
+const STATUS_FILENO: i32 = 29;
 
 // Whether the first word asks for the status.
 fn is_asked_for_status() -> bool {
     let mut word = io::buffer();
     let n = os::arg(1, &mut word);
-    desk::same_word(&word[..n], b"--status-fd=3")
+    desk::same_word(&word[..n], b"--status-fd=29")
 }
 
 // How many words there are behind so many.

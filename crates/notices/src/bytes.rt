@@ -13,6 +13,13 @@ fn is_letter(byte: u8) -> bool {
     byte <= b'z'
 }
 
+fn is_blank(byte: u8) -> bool {
+    if byte == b' ' {
+        return true;
+    }
+    byte == b'\t'
+}
+
 fn is_visible(byte: u8) -> bool {
     if byte <= b' ' {
         return false;
@@ -60,6 +67,18 @@ fn name(err: i32, byte: u8) -> bool {
 
 // What to do about it, at the start of a file.
 fn advice_at_start(err: i32, byte: u8) -> bool {
+    if byte == b'P' {
+        return io::write_all(
+            err,
+            b": take a heading out, so that the first line is that of id 0; a spreadsheet's own file, which starts so too, has to be saved as plain text\n",
+        );
+    }
+    if is_letter(byte) {
+        return io::write_all(
+            err,
+            b": if it is a heading, take it out, so that the first line is that of id 0\n",
+        );
+    }
     if byte == 0xEF {
         return io::write_all(
             err,
@@ -72,21 +91,28 @@ fn advice_at_start(err: i32, byte: u8) -> bool {
             b", as UTF-16 text begins: save the file as plain text, UTF-8 without a mark\n",
         );
     }
-    advice(err, byte)
+    advice(err, 0, byte)
 }
 
-fn advice(err: i32, byte: u8) -> bool {
+// What to do about it elsewhere. What stands behind a number is not to be joined to it.
+fn advice(err: i32, place: usize, byte: u8) -> bool {
     if byte == 0 {
         return io::write_all(
             err,
             b", as a spreadsheet's own file or UTF-16 text has it: save the file as plain text\n",
         );
     }
-    if byte == b' ' {
-        return io::write_all(err, b": take it out\n");
+    if is_blank(byte) {
+        if place == 0 {
+            return io::write_all(err, b": a line starts with its number\n");
+        }
+        return io::write_all(err, b": a line has one number and nothing after it\n");
     }
-    if byte == b'\t' {
-        return io::write_all(err, b": take it out\n");
+    if byte == b',' {
+        return io::write_all(err, b": one number a line, and 1,000 is written 1000\n");
+    }
+    if byte == b'.' {
+        return io::write_all(err, b": only whole numbers can be stored, in digits only\n");
     }
     if byte == b'\r' {
         return io::write_all(
@@ -95,7 +121,13 @@ fn advice(err: i32, byte: u8) -> bool {
         );
     }
     if byte == b'-' {
-        return io::write_all(err, b": numbers are 0 or more\n");
+        return io::write_all(err, b": only numbers from 0 on can be stored\n");
+    }
+    if byte > 127 {
+        return io::write_all(
+            err,
+            b", of a character that is no plain one: write each number in digits only, one a line\n",
+        );
     }
     io::write_all(err, b": write each number in digits only, one a line\n")
 }
@@ -119,5 +151,5 @@ pub(crate) fn other(err: i32, lines: usize, place: usize, byte: u8) -> bool {
             return advice_at_start(err, byte);
         }
     }
-    advice(err, byte)
+    advice(err, place, byte)
 }

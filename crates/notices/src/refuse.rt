@@ -130,7 +130,7 @@ pub fn text(err: i32, path: &[u8], loaded: Loaded) -> u8
             err,
             path,
             lines,
-            b"the line is empty; write one number on it, or take it out\n",
+            b"the line is empty: write its number on it; where it stands for nobody, take it out, and every later id moves up by one\n",
         ),
         Trouble::NotADigit(place, byte) => other_byte(err, path, lines, place, byte),
         Trouble::TooLarge => bad_line(
@@ -144,7 +144,7 @@ pub fn text(err: i32, path: &[u8], loaded: Loaded) -> u8
             err,
             path,
             lines,
-            b"the last line has no line end, so a part of it may be missing; see that the file was written to its end, and end the line\n",
+            b"the last line has no line end, so a part of its number may be missing: get the whole file, and end the line only where its number is right\n",
         ),
         Trouble::NoLine => no_line(err, path),
     }
@@ -166,7 +166,7 @@ fn because(err: i32, error: i32) -> bool {
     }
     io::write_all(
         err,
-        b"the system cannot read it; try another place for it\n",
+        b"the system cannot open or read it; check its name, or try a copy in another place\n",
     )
 }
 

@@ -14,10 +14,11 @@ fn page(fd: i32) -> bool {
   ./column list TERMS LO HI [FROM TO]   the ids whose value lies in LO to HI, each with its value, and how many of how many
   ./column get TERMS ID                 the value of one id
   ./column show TERMS                   how many values there are, and how they are packed
-  ./column help                         this page; so do --help and -h
+  ./column help                         this page; --help and -h are the same
   ./column --version                    the version
 
-TERMS is a text file of one decimal number a line, each line with its line end, and at most 131072 of them.
+TERMS is a text file, or /dev/stdin, of one decimal number a line and nothing else, and at most 131072 of them.
+Each line has its line end: a line feed, or a carriage return and a line feed.
 The number of id N stands on line N + 1: that of id 0 on the first line.
 LO and HI are both included. With FROM and TO, only ids from FROM to before TO are looked at: TO is not included.
 A list ends with `K of N`: K ids were found, N were looked at. A file that was cut between two lines shows only there.
@@ -96,7 +97,10 @@ fn sentence(err: i32, fault: Fault) -> bool {
         Fault::Fine => false,
         Fault::TooLong(number) => numbered(err, number, b" is longer than 4096 bytes\n"),
         Fault::Missing(word) => missing(err, word),
-        Fault::NoVerb => io::write_all(err, b"word 1 is none of list, get, show, help\n"),
+        Fault::NoVerb => io::write_all(
+            err,
+            b"word 1 is none of list, get, show, help, --version\n",
+        ),
         Fault::TooMany(number) => numbered(err, number, b" is one too many\n"),
         Fault::NotANumber(word) => no_number(err, word),
         Fault::LoAboveHi => io::write_all(
