@@ -1,7 +1,7 @@
 // Reading and searching a bare column, whose values all lie in the data.
 ghost use Prim.Native.Nat.{_≤_, _<_};
 ghost use lib.ListN.{length};
-use crate::VALUES;
+use crate::areas::position_area;
 use crate::pack;
 use bitunpacker::BitUnpacker;
 use bitunpacker::Filled;
@@ -83,7 +83,7 @@ fn ranges_of_1000(unpacker: BitUnpacker, data: &[u8], count: u32) -> u64 {
 fn search_all(unpacker: BitUnpacker, data: &[u8], count: usize) -> u64
     requires { ⌜ count ≤ 400000 ⌝ }
 {
-    let mut positions = [0; VALUES];
+    let mut positions = position_area();
     match unpacker.get_ids_for_value_range(1, 1, 0, count as u32, data, &mut positions) {
         Found::Ids(found) => found as u64,
         Found::Refused(_) => 0,

@@ -2,25 +2,22 @@
 // number of an arm below. A column or a store has COUNT values, of which every SPACING-th is 1 and the
 // others are 0; a column has WIDTH bits for each. The work is done TIMES times, so that the difference
 // of two TIMES is the work alone.
+mod areas;
 mod column;
 mod number;
 mod pack;
 mod store;
 
 ghost use Prim.Native.Nat.{_≤_};
+use areas::VALUES;
 use column::Question;
 use libc::STDOUT_FILENO;
 use store::Task;
 
-// The most values, and the most bytes of a column or of a store.
-pub const VALUES: usize = 400_000;
-
-const BYTES: usize = 400_064;
-
 fn work(kind: u64, width: u8, count: usize, spacing: usize, times: usize) -> u64
     requires { ⌜ (count ≤ 400000) × (spacing ≤ 400000) ⌝ }
 {
-    let mut bytes = [0; BYTES];
+    let mut bytes = areas::byte_area();
     match kind {
         0 => pack::pack(width, count, spacing, times, &mut bytes),
         1 => column::work(Question::Get, width, count, spacing, times, &mut bytes),

@@ -1,7 +1,8 @@
 // Adding to a store, reading it and searching it.
 ghost use Prim.Native.Nat.{_≤_, _<_};
 ghost use lib.ListN.{length};
-use crate::VALUES;
+use crate::areas::entry_area;
+use crate::areas::position_area;
 use crate::pack;
 use bitunpacker::Filled;
 use bitunpacker::Found;
@@ -15,9 +16,6 @@ pub enum Task {
     Range,
     Search,
 }
-
-// Entry words for as many blocks as the values can take.
-const ENTRIES: usize = 6_252;
 
 fn fill(count: usize, spacing: usize, bytes: &mut [u8], entries: &mut [u64]) -> BlockedBitpacker {
     let made = BlockedBitpacker::new(bytes);
@@ -74,7 +72,7 @@ fn range(store: BlockedBitpacker, count: usize, bytes: &[u8], entries: &[u64]) -
 fn search(store: BlockedBitpacker, count: usize, bytes: &[u8], entries: &[u64]) -> u64
     requires { ⌜ count ≤ 400000 ⌝ }
 {
-    let mut positions = [0; VALUES];
+    let mut positions = position_area();
     match store.get_ids_for_value_range(1, 1, 0, count as u32, bytes, entries, &mut positions) {
         Found::Ids(found) => found as u64,
         Found::Refused(_) => 0,
@@ -139,19 +137,19 @@ fn fill_lent_each(
 }
 
 pub fn add(count: usize, spacing: usize, times: usize, bytes: &mut [u8]) -> u64 {
-    let mut entries = [0; ENTRIES];
+    let mut entries = entry_area();
     fill_each(count, spacing, times, bytes, &mut entries)
 }
 
 pub fn add_lent_each(count: usize, spacing: usize, times: usize, bytes: &mut [u8]) -> u64 {
-    let mut entries = [0; ENTRIES];
+    let mut entries = entry_area();
     fill_lent_each(count, spacing, times, bytes, &mut entries)
 }
 
 pub fn work(task: Task, count: usize, spacing: usize, times: usize, bytes: &mut [u8]) -> u64
     requires { ⌜ count ≤ 400000 ⌝ }
 {
-    let mut entries = [0; ENTRIES];
+    let mut entries = entry_area();
     let store = fill(count, spacing, bytes, &mut entries);
     ask_each(task, store, count, times, bytes, &entries)
 }
