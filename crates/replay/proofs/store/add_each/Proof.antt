@@ -1,16 +1,16 @@
--- `replay::store::add_each` is safe and ends: each turn leaves fewer values, and the areas stay as long as they are.
+-- Safe and ending: a turn for each value, and the areas keep their lengths.
 use borrow.Author.Needs.{needs}
-use Prim.Native.Nat.{_≤_, _-_}
+use Prim.Native.Nat.{_-_, _≤_}
 use mathlib.Core.Path.{_≡_}
 use lib.ListN.{length}
 use Rattle.replay.proofs.store.add_each.Statement.{statement}
 use Rattle.replay.proofs.store.add_each.Tie as tie
 
 abbrev Inv-loop : tie.InvT-loop
-Inv-loop values bytes₀ entries₀ store₀ i₀ bytes entries store i = (i ≤ length values) × (length bytes ≡ length bytes₀) × (length entries ≡ length entries₀)
+Inv-loop values bytes₀ entries₀ store₀ i₀ i-end bytes entries store i = (i ≤ length values) × (length bytes ≡ length bytes₀) × (length entries ≡ length entries₀)
 
 abbrev μ-loop : tie.MeasureT-loop
-μ-loop values bytes₀ entries₀ store₀ i₀ bytes entries store i = length values - i
+μ-loop values bytes₀ entries₀ store₀ i₀ i-end bytes entries store i = length values - i
 
 loop-holds : tie.Need-loop-holds Inv-loop μ-loop
 loop-holds c = search needs
@@ -26,6 +26,12 @@ add-requires c κs = search needs
 
 number-of-requires : tie.Need-number-of-requires Inv-loop μ-loop
 number-of-requires c κs = search needs
+
+slice-aggregate-say : tie.Need-slice-aggregate-say Inv-loop μ-loop
+slice-aggregate-say c = search needs
+
+say-requires : tie.Need-say-requires Inv-loop μ-loop
+say-requires c κs = search needs
 
 same-length : tie.Need-same-length Inv-loop μ-loop
 same-length c = search needs
@@ -44,6 +50,12 @@ loop-less c = search needs
 
 loop-again : tie.Need-loop-again Inv-loop μ-loop
 loop-again c = search needs
+
+slice-aggregate-say-2 : tie.Need-slice-aggregate-say-2 Inv-loop μ-loop
+slice-aggregate-say-2 c = search needs
+
+say-requires-2 : tie.Need-say-requires-2 Inv-loop μ-loop
+say-requires-2 c κs = search needs
 
 same-length-3 : tie.Need-same-length-3 Inv-loop μ-loop
 same-length-3 c = search needs
@@ -65,12 +77,16 @@ add-each-spec =
     shared-slice-read-add
     add-requires
     number-of-requires
+    slice-aggregate-say
+    say-requires
     same-length
     same-length-2
     returns
     add-i
     loop-less
     loop-again
+    slice-aggregate-say-2
+    say-requires-2
     same-length-3
     same-length-4
     returns-2)

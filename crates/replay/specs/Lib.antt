@@ -1,3 +1,0 @@
--- What the contracts of reading a line cite.
-pub mod Line
-pub mod Words

@@ -1,0 +1,82 @@
+// What is asked of values alone.
+use crate::areas;
+use crate::areas::ROOM;
+use crate::line::at;
+use crate::line::at_most;
+use crate::line::low_u32;
+use crate::say::say;
+use crate::say::say_places;
+use num_bits::MinMaxF64;
+use num_bits::MinMaxU64;
+
+fn say_both(port: MinMaxU64) {
+    match port {
+        MinMaxU64::Nothing => say(&[0]),
+        MinMaxU64::Of(lowest, highest) => say(&[1, lowest, highest]),
+    }
+}
+
+// `V0 V1 ..`, answered by 0 for none, or by 1, the lowest and the highest.
+pub fn minmax(values: &[u64]) {
+    say_both(num_bits::minmax_u64(values));
+}
+
+const SIGN: u64 = 0x8000_0000_0000_0000;
+
+// The pattern of infinity: those above it, but for the sign, are the NaNs'.
+const INFINITY: u64 = 0x7ff0_0000_0000_0000;
+
+const NAN: u64 = 0x7ff8_0000_0000_0000;
+
+// Which NaN it is makes no difference to any comparison.
+fn float_of(pattern: u64) -> f64 {
+    if pattern % SIGN > INFINITY {
+        return 0.0 / 0.0;
+    }
+    f64::from_bits(pattern)
+}
+
+// No recorded answer is a NaN, so one of the port's is a difference whatever its pattern.
+fn pattern_of(x: f64) -> u64 {
+    if x == x { f64::to_bits(x) } else { NAN }
+}
+
+fn patterns_of(port: MinMaxF64) -> MinMaxU64 {
+    match port {
+        MinMaxF64::Nothing => MinMaxU64::Nothing,
+        MinMaxF64::Of(lowest, highest) => MinMaxU64::Of(pattern_of(lowest), pattern_of(highest)),
+    }
+}
+
+// The same of floats with these patterns.
+pub fn minmax_of_patterns(patterns: &[u64]) {
+    let mut floats = areas::floats();
+    let count = at_most(patterns.len() as u64, ROOM);
+    for i in 0..count {
+        floats[i] = float_of(at(patterns, i));
+    }
+    say_both(patterns_of(num_bits::minmax_f64(&floats[0..count])));
+}
+
+// Puts numbers of 32 bits into the places.
+fn narrow(numbers: &[u64], places: &mut [u32]) {
+    for i in 0..places.len() {
+        places[i] = low_u32(at(numbers, i));
+    }
+}
+
+// `LO HI OFFSET V0 V1 ..`, answered by 0, by how many ids there are, and by every place of the slice.
+pub fn filter(step: &[u64]) {
+    let mut room = areas::positions();
+    let places = &mut room[0..at_most(step.len() as u64, ROOM)];
+    narrow(step, places);
+    if places.len() < 3 {
+        return;
+    }
+    let lo = places[0];
+    let hi = places[1];
+    let offset = places[2];
+    let values = &mut places[3..];
+    let found = filter_vec::filter_vec_in_place(lo, hi, offset, values);
+    say_places(0, found as u64, values);
+}

@@ -1,0 +1,149 @@
+// What is asked of single values, of a bare column or of a store.
+ghost use Prim.Native.Nat.{_≤_, _<_};
+ghost use lib.ListN.{length};
+use crate::areas;
+use crate::areas::ROOM;
+use crate::line::at;
+use crate::line::at_most;
+use crate::line::low_u32;
+use crate::say::say_first;
+use crate::say::say_places;
+use crate::state::State;
+use bitunpacker::BitUnpacker;
+use bitunpacker::Filled;
+use bitunpacker::Found;
+use bitunpacker::Got;
+use std::num::wrapping_add_u64;
+
+// An unpacker by its fields, which may be forged.
+fn unpacker_of(state: State) -> BitUnpacker {
+    BitUnpacker {
+        num_bits: state.width,
+        mask: state.mask,
+    }
+}
+
+fn get_one(state: State, of_store: bool, index: u64, bytes: &[u8], entries: &[u64]) -> Got {
+    if of_store {
+        return state.store.get(index as usize, bytes, entries);
+    }
+    unpacker_of(state).get(low_u32(index), bytes)
+}
+
+// Reads one value after the other up to the first that is refused. Puts them behind the number of the
+// refusal, or 0, and answers how many numbers that makes.
+fn get_each(
+    state: State,
+    of_store: bool,
+    start: u64,
+    count: usize,
+    bytes: &[u8],
+    entries: &[u64],
+    answer: &mut [u64; ROOM],
+) -> usize
+    requires { ⌜ count < 8192 ⌝ }
+    ensures { λ r. ⌜ r ≤ 8192 ⌝ }
+{
+    answer[0] = 0;
+    for i in 0..count {
+        match get_one(
+            state,
+            of_store,
+            wrapping_add_u64(start, i as u64),
+            bytes,
+            entries,
+        ) {
+            Got::Value(value) => {
+                answer[i + 1] = value;
+            }
+            Got::Refused(why) => {
+                answer[0] = why.number() as u64;
+                return i + 1;
+            }
+        }
+    }
+    count + 1
+}
+
+// `START COUNT`: the values, each by a read of its own.
+pub fn get(state: State, of_store: bool, step: &[u64], bytes: &[u8], entries: &[u64]) {
+    let mut answer = areas::numbers();
+    let count = at_most(at(step, 1), ROOM - 1);
+    let end = get_each(
+        state,
+        of_store,
+        at(step, 0),
+        count,
+        bytes,
+        entries,
+        &mut answer,
+    );
+    say_first(&answer, end);
+}
+
+fn get_range(
+    state: State,
+    of_store: bool,
+    start: u64,
+    bytes: &[u8],
+    entries: &[u64],
+    output: &mut [u64],
+) -> Filled {
+    if of_store {
+        return state
+            .store
+            .get_range(start as usize, bytes, entries, output);
+    }
+    unpacker_of(state).get_range(low_u32(start), bytes, output)
+}
+
+// `START COUNT`: the values by one read, answered by 0 or the number of the refusal, and the output as it
+// then is.
+pub fn range(state: State, of_store: bool, step: &[u64], bytes: &[u8], entries: &[u64]) {
+    let mut answer = areas::numbers();
+    let count = at_most(at(step, 1), ROOM - 1);
+    let port = get_range(
+        state,
+        of_store,
+        at(step, 0),
+        bytes,
+        entries,
+        &mut answer[1..count + 1],
+    );
+    answer[0] = match port {
+        Filled::Done => 0,
+        Filled::Refused(why) => why.number() as u64,
+    };
+    say_first(&answer, count + 1);
+}
+
+// `LO HI START END ROOM`, with the positions that are lent.
+fn find(
+    state: State,
+    of_store: bool,
+    step: &[u64],
+    bytes: &[u8],
+    entries: &[u64],
+    positions: &mut [u32],
+) -> Found {
+    let lo = at(step, 0);
+    let hi = at(step, 1);
+    let start = low_u32(at(step, 2));
+    let end = low_u32(at(step, 3));
+    if of_store {
+        return state
+            .store
+            .get_ids_for_value_range(lo, hi, start, end, bytes, entries, positions);
+    }
+    unpacker_of(state).get_ids_for_value_range(lo, hi, start, end, bytes, positions)
+}
+
+// Answered by 0 or the number of the refusal, by how many ids there are, and by every position that was lent.
+pub fn search(state: State, of_store: bool, step: &[u64], bytes: &[u8], entries: &[u64]) {
+    let mut positions = areas::positions();
+    let lent = &mut positions[0..at_most(at(step, 4), ROOM)];
+    match find(state, of_store, step, bytes, entries, lent) {
+        Found::Ids(found) => say_places(0, found as u64, lent),
+        Found::Refused(why) => say_places(why.number() as u64, 0, lent),
+    }
+}
