@@ -4,6 +4,7 @@ use crate::line::at;
 use crate::line::at_most;
 use crate::line::low_u8;
 use crate::say::say;
+use crate::say::say_one;
 use crate::state::State;
 use bitpacker::BitPacker;
 use bitpacker::Written;
@@ -41,7 +42,7 @@ pub fn set_entries(step: &[u64], entries: &mut [u64]) {
         entries[place] = word;
         place += 1;
     }
-    say(&[0]);
+    say_one(0);
 }
 
 // `ROOM WIDTH VALUE`, or `ROOM` of a flush: so many bytes are lent.
@@ -60,9 +61,9 @@ fn after(mut state: State, port: Written) -> State {
             state.mini_buffer = packer.mini_buffer;
             state.held = packer.mini_buffer_written;
             state.emitted = wrapping_add_usize(state.emitted, n);
-            say(&[0, n as u64]);
+            say(0, &[n as u64]);
         }
-        Written::Refused(why) => say(&[why.number() as u64]),
+        Written::Refused(why) => say_one(why.number() as u64),
     }
     state
 }
@@ -71,7 +72,7 @@ fn after(mut state: State, port: Written) -> State {
 pub fn change(state: State, kind: u64, step: &[u64], bytes: &mut [u8]) -> State {
     if kind == 4 {
         set_bytes(step, bytes);
-        say(&[0]);
+        say_one(0);
         return state;
     }
     let packer = BitPacker {

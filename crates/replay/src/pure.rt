@@ -5,14 +5,15 @@ use crate::line::at;
 use crate::line::at_most;
 use crate::line::low_u32;
 use crate::say::say;
+use crate::say::say_one;
 use crate::say::say_places;
 use num_bits::MinMaxF64;
 use num_bits::MinMaxU64;
 
 fn say_both(port: MinMaxU64) {
     match port {
-        MinMaxU64::Nothing => say(&[0]),
-        MinMaxU64::Of(lowest, highest) => say(&[1, lowest, highest]),
+        MinMaxU64::Nothing => say_one(0),
+        MinMaxU64::Of(lowest, highest) => say(1, &[lowest, highest]),
     }
 }
 

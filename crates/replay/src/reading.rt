@@ -1,12 +1,10 @@
 // What is asked of single values, of a bare column or of a store.
-ghost use Prim.Native.Nat.{_≤_, _<_};
-ghost use lib.ListN.{length};
 use crate::areas;
 use crate::areas::ROOM;
 use crate::line::at;
 use crate::line::at_most;
 use crate::line::low_u32;
-use crate::say::say_first;
+use crate::say::say;
 use crate::say::say_places;
 use crate::state::State;
 use bitunpacker::BitUnpacker;
@@ -30,21 +28,12 @@ fn get_one(state: State, of_store: bool, index: u64, bytes: &[u8], entries: &[u6
     unpacker_of(state).get(low_u32(index), bytes)
 }
 
-// Reads one value after the other up to the first that is refused. Puts them behind the number of the
-// refusal, or 0, and answers how many numbers that makes.
-fn get_each(
-    state: State,
-    of_store: bool,
-    start: u64,
-    count: usize,
-    bytes: &[u8],
-    entries: &[u64],
-    answer: &mut [u64; ROOM],
-) -> usize
-    requires { ⌜ count < 8192 ⌝ }
-    ensures { λ r. ⌜ r ≤ 8192 ⌝ }
-{
-    answer[0] = 0;
+// `START COUNT`: the values, each by a read of its own, up to the first that is refused. Answered by 0 or the
+// number of the refusal, and the values.
+pub fn get(state: State, of_store: bool, step: &[u64], bytes: &[u8], entries: &[u64]) {
+    let mut values = areas::numbers();
+    let start = at(step, 0);
+    let count = at_most(at(step, 1), ROOM);
     for i in 0..count {
         match get_one(
             state,
@@ -54,31 +43,15 @@ fn get_each(
             entries,
         ) {
             Got::Value(value) => {
-                answer[i + 1] = value;
+                values[i] = value;
             }
             Got::Refused(why) => {
-                answer[0] = why.number() as u64;
-                return i + 1;
+                say(why.number() as u64, &values[0..i]);
+                return;
             }
         }
     }
-    count + 1
-}
-
-// `START COUNT`: the values, each by a read of its own.
-pub fn get(state: State, of_store: bool, step: &[u64], bytes: &[u8], entries: &[u64]) {
-    let mut answer = areas::numbers();
-    let count = at_most(at(step, 1), ROOM - 1);
-    let end = get_each(
-        state,
-        of_store,
-        at(step, 0),
-        count,
-        bytes,
-        entries,
-        &mut answer,
-    );
-    say_first(&answer, end);
+    say(0, &values[0..count]);
 }
 
 fn get_range(
@@ -100,21 +73,12 @@ fn get_range(
 // `START COUNT`: the values by one read, answered by 0 or the number of the refusal, and the output as it
 // then is.
 pub fn range(state: State, of_store: bool, step: &[u64], bytes: &[u8], entries: &[u64]) {
-    let mut answer = areas::numbers();
-    let count = at_most(at(step, 1), ROOM - 1);
-    let port = get_range(
-        state,
-        of_store,
-        at(step, 0),
-        bytes,
-        entries,
-        &mut answer[1..count + 1],
-    );
-    answer[0] = match port {
-        Filled::Done => 0,
-        Filled::Refused(why) => why.number() as u64,
-    };
-    say_first(&answer, count + 1);
+    let mut room = areas::numbers();
+    let output = &mut room[0..at_most(at(step, 1), ROOM)];
+    match get_range(state, of_store, at(step, 0), bytes, entries, output) {
+        Filled::Done => say(0, output),
+        Filled::Refused(why) => say(why.number() as u64, output),
+    }
 }
 
 // `LO HI START END ROOM`, with the positions that are lent.

@@ -1,6 +1,5 @@
 // An answer on standard output: numbers in lowercase hexadecimal, each after one space, and a line feed.
 ghost use Prim.Native.Nat.{_+_, _≤_};
-use crate::areas::ROOM;
 use crate::line::at_most;
 use libc::STDOUT_FILENO;
 
@@ -54,30 +53,30 @@ fn finish(end: usize, page: &mut [u8; PAGE])
     print(page, end + 1);
 }
 
-pub fn say(numbers: &[u64]) {
+pub fn say_one(number: u64) {
     let mut page = io::buffer();
-    let mut end = 0;
-    for i in 0..numbers.len() {
-        end = put(numbers[i], end, &mut page);
-    }
+    let end = put(number, 0, &mut page);
     finish(end, &mut page);
 }
 
-// The first numbers of an area.
-pub fn say_first(numbers: &[u64; ROOM], count: usize)
-    requires { ⌜ count ≤ 8192 ⌝ }
-{
-    let whole = &numbers[..];
-    say(&whole[0..count]);
+// A number, and then others.
+pub fn say(first: u64, rest: &[u64]) {
+    let mut page = io::buffer();
+    let mut end = put(first, 0, &mut page);
+    for i in 0..rest.len() {
+        end = put(rest[i], end, &mut page);
+    }
+    finish(end, &mut page);
 }
 
 fn wide_byte(byte: u8) -> u64 {
     byte as u64
 }
 
-pub fn say_bytes(bytes: &[u8]) {
+// A number, and then bytes.
+pub fn say_bytes(first: u64, bytes: &[u8]) {
     let mut page = io::buffer();
-    let mut end = 0;
+    let mut end = put(first, 0, &mut page);
     for i in 0..bytes.len() {
         end = put(wide_byte(bytes[i]), end, &mut page);
     }

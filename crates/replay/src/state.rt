@@ -1,7 +1,7 @@
 // What one step leaves to the next, beside the two areas.
 use crate::line::at;
 use crate::line::low_u8;
-use crate::say::say;
+use crate::say::say_one;
 use bitpacker::BitPacker;
 use bitunpacker::BitUnpacker;
 use bitunpacker::Made;
@@ -63,9 +63,9 @@ impl State {
             Made::Unpacker(unpacker) => {
                 self.width = unpacker.num_bits;
                 self.mask = unpacker.mask;
-                say(&[0]);
+                say_one(0);
             }
-            Made::Refused(why) => say(&[why.number() as u64]),
+            Made::Refused(why) => say_one(why.number() as u64),
         }
         self
     }
@@ -91,7 +91,7 @@ impl State {
                 self.mask = second;
             }
         }
-        say(&[0]);
+        say_one(0);
         self
     }
 
@@ -100,7 +100,7 @@ impl State {
         let mut state = State::new();
         state.byte_room = at(step, 0);
         state.entry_room = at(step, 1);
-        say(&[0]);
+        say_one(0);
         state
     }
 
@@ -110,7 +110,7 @@ impl State {
         self.mini_buffer = packer.mini_buffer;
         self.held = packer.mini_buffer_written;
         self.emitted = 0;
-        say(&[0]);
+        say_one(0);
         self
     }
 

@@ -5,28 +5,29 @@ use crate::pure;
 use crate::reading;
 use crate::say::say;
 use crate::say::say_bytes;
+use crate::say::say_one;
 use crate::state::State;
 use crate::store;
 
 // A step that changes nothing.
 fn ask(state: State, kind: u64, step: &[u64], bytes: &[u8], entries: &[u64]) {
     match kind {
-        0x10 => say(&[num_bits::compute_num_bits(at(step, 0)) as u64]),
+        0x10 => say_one(num_bits::compute_num_bits(at(step, 0)) as u64),
         0x11 => pure::minmax(step),
         0x12 => pure::minmax_of_patterns(step),
         0x13 => pure::filter(step),
         0x14 => store::count(state.store, bytes, entries),
         0x15 => store::fields(state.store),
         0x16 => store::waiting(state.store),
-        0x17 => say(entries),
-        0x18 => say_bytes(bytes),
+        0x17 => say(0, entries),
+        0x18 => say_bytes(0, bytes),
         0x20 => reading::get(state, false, step, bytes, entries),
         0x21 => reading::get(state, true, step, bytes, entries),
         0x22 => reading::range(state, false, step, bytes, entries),
         0x23 => reading::range(state, true, step, bytes, entries),
         0x24 => reading::search(state, false, step, bytes, entries),
         0x25 => reading::search(state, true, step, bytes, entries),
-        _ => say(&[0xbad]),
+        _ => say_one(0xbad),
     }
 }
 

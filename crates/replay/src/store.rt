@@ -1,5 +1,6 @@
 // What is told to a blocked store, and what is asked of the whole of it.
 use crate::say::say;
+use crate::say::say_one;
 use crate::state::State;
 use blocked_bitpacker::BlockedBitpacker;
 use blocked_bitpacker::Counted;
@@ -17,7 +18,7 @@ fn number_of(done: Done) -> u64 {
 // Says how many values were accepted and 0 or the number of the refusal that ended it; answers the store.
 fn said(accepted: usize, port: Stored) -> BlockedBitpacker {
     let done = port.done;
-    say(&[accepted as u64, number_of(done)]);
+    say(accepted as u64, &[number_of(done)]);
     let store = port.store;
     store
 }
@@ -36,11 +37,11 @@ fn add_each(
         let done = port.done;
         let refusal = number_of(done);
         if refusal > 0 {
-            say(&[i as u64, refusal]);
+            say(i as u64, &[refusal]);
             return store;
         }
     }
-    say(&[values.len() as u64, 0]);
+    say(values.len() as u64, &[0]);
     store
 }
 
@@ -65,16 +66,16 @@ pub fn change(
 // Answered by 0 and the count, or the number of the refusal.
 pub fn count(store: BlockedBitpacker, bytes: &[u8], entries: &[u64]) {
     match store.count(bytes, entries) {
-        Counted::Count(n) => say(&[0, n as u64]),
-        Counted::Refused(why) => say(&[why.number() as u64]),
+        Counted::Count(n) => say(0, &[n as u64]),
+        Counted::Refused(why) => say_one(why.number() as u64),
     }
 }
 
 // The fields that are numbers, `USED BLOCKS WAITING LAST_LENGTH`.
 pub fn fields(store: BlockedBitpacker) {
     say(
+        store.used as u64,
         &[
-            store.used as u64,
             store.blocks as u64,
             store.waiting as u64,
             store.last_length as u64,
@@ -84,5 +85,5 @@ pub fn fields(store: BlockedBitpacker) {
 
 pub fn waiting(store: BlockedBitpacker) {
     let buffer = store.buffer;
-    say(&buffer);
+    say(0, &buffer);
 }

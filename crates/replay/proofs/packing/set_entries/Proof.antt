@@ -7,10 +7,10 @@ use Rattle.replay.proofs.packing.set_entries.Statement.{statement}
 use Rattle.replay.proofs.packing.set_entries.Tie as tie
 
 abbrev Inv-loop : tie.InvT-loop
-Inv-loop step entries₀ word to place₀ t6 entries place = (length entries ≡ length entries₀) × (to ≤ length entries)
+Inv-loop step entries₀ word to place₀ entries place = (length entries ≡ length entries₀) × (to ≤ length entries)
 
 abbrev μ-loop : tie.MeasureT-loop
-μ-loop step entries₀ word to place₀ t6 entries place = to - place
+μ-loop step entries₀ word to place₀ entries place = to - place
 
 at-requires : tie.Need-at-requires Inv-loop μ-loop
 at-requires c κs = search needs
@@ -42,11 +42,8 @@ loop-less c = search needs
 loop-again : tie.Need-loop-again Inv-loop μ-loop
 loop-again c = search needs
 
-slice-aggregate-say : tie.Need-slice-aggregate-say Inv-loop μ-loop
-slice-aggregate-say c = search needs
-
-say-requires : tie.Need-say-requires Inv-loop μ-loop
-say-requires c κs = search needs
+say-one-requires : tie.Need-say-one-requires Inv-loop μ-loop
+say-one-requires c κs = search needs
 
 same-length : tie.Need-same-length Inv-loop μ-loop
 same-length c = search needs
@@ -70,7 +67,6 @@ set-entries-spec =
     add-place
     loop-less
     loop-again
-    slice-aggregate-say
-    say-requires
+    say-one-requires
     same-length
     returns)

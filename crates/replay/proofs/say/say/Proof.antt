@@ -6,13 +6,16 @@ use Rattle.replay.proofs.say.say.Statement.{statement}
 use Rattle.replay.proofs.say.say.Tie as tie
 
 abbrev Inv-loop : tie.InvT-loop
-Inv-loop numbers page₀ end₀ i₀ i-end page end i = (end ≤ 4095) × (i ≤ length numbers)
+Inv-loop first rest page₀ end₀ i₀ i-end page end i = (end ≤ 4095) × (i ≤ length rest)
 
 abbrev μ-loop : tie.MeasureT-loop
-μ-loop numbers page₀ end₀ i₀ i-end page end i = length numbers - i
+μ-loop first rest page₀ end₀ i₀ i-end page end i = length rest - i
 
 buffer-requires : tie.Need-buffer-requires Inv-loop μ-loop
 buffer-requires c κs = search needs
+
+put-requires : tie.Need-put-requires Inv-loop μ-loop
+put-requires c κs = search needs
 
 loop-holds : tie.Need-loop-holds Inv-loop μ-loop
 loop-holds c = search needs
@@ -23,8 +26,8 @@ mul-put c = search needs
 shared-slice-read-put : tie.Need-shared-slice-read-put Inv-loop μ-loop
 shared-slice-read-put c = search needs
 
-put-requires : tie.Need-put-requires Inv-loop μ-loop
-put-requires c κs = search needs
+put-requires-2 : tie.Need-put-requires-2 Inv-loop μ-loop
+put-requires-2 c κs = search needs
 
 add-i : tie.Need-add-i Inv-loop μ-loop
 add-i c = search needs
@@ -48,10 +51,11 @@ say-spec =
     Inv-loop
     μ-loop
     buffer-requires
+    put-requires
     loop-holds
     mul-put
     shared-slice-read-put
-    put-requires
+    put-requires-2
     add-i
     loop-less
     loop-again

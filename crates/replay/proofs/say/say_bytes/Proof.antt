@@ -6,13 +6,16 @@ use Rattle.replay.proofs.say.say_bytes.Statement.{statement}
 use Rattle.replay.proofs.say.say_bytes.Tie as tie
 
 abbrev Inv-loop : tie.InvT-loop
-Inv-loop bytes page₀ end₀ i₀ i-end page end i = (end ≤ 4095) × (i ≤ length bytes)
+Inv-loop first bytes page₀ end₀ i₀ i-end page end i = (end ≤ 4095) × (i ≤ length bytes)
 
 abbrev μ-loop : tie.MeasureT-loop
-μ-loop bytes page₀ end₀ i₀ i-end page end i = length bytes - i
+μ-loop first bytes page₀ end₀ i₀ i-end page end i = length bytes - i
 
 buffer-requires : tie.Need-buffer-requires Inv-loop μ-loop
 buffer-requires c κs = search needs
+
+put-requires : tie.Need-put-requires Inv-loop μ-loop
+put-requires c κs = search needs
 
 loop-holds : tie.Need-loop-holds Inv-loop μ-loop
 loop-holds c = search needs
@@ -23,8 +26,8 @@ shared-slice-read-wide-byte c = search needs
 wide-byte-requires : tie.Need-wide-byte-requires Inv-loop μ-loop
 wide-byte-requires c κs = search needs
 
-put-requires : tie.Need-put-requires Inv-loop μ-loop
-put-requires c κs = search needs
+put-requires-2 : tie.Need-put-requires-2 Inv-loop μ-loop
+put-requires-2 c κs = search needs
 
 add-i : tie.Need-add-i Inv-loop μ-loop
 add-i c = search needs
@@ -48,10 +51,11 @@ say-bytes-spec =
     Inv-loop
     μ-loop
     buffer-requires
+    put-requires
     loop-holds
     shared-slice-read-wide-byte
     wide-byte-requires
-    put-requires
+    put-requires-2
     add-i
     loop-less
     loop-again

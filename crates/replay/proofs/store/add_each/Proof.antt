@@ -7,10 +7,10 @@ use Rattle.replay.proofs.store.add_each.Statement.{statement}
 use Rattle.replay.proofs.store.add_each.Tie as tie
 
 abbrev Inv-loop : tie.InvT-loop
-Inv-loop values bytes₀ entries₀ store₀ i₀ i-end bytes entries store i = (i ≤ length values) × (length bytes ≡ length bytes₀) × (length entries ≡ length entries₀)
+Inv-loop values bytes₀ entries₀ store₀ i₀ t10 i-end bytes entries store i = (i ≤ length values) × (length bytes ≡ length bytes₀) × (length entries ≡ length entries₀)
 
 abbrev μ-loop : tie.MeasureT-loop
-μ-loop values bytes₀ entries₀ store₀ i₀ i-end bytes entries store i = length values - i
+μ-loop values bytes₀ entries₀ store₀ i₀ t10 i-end bytes entries store i = length values - i
 
 loop-holds : tie.Need-loop-holds Inv-loop μ-loop
 loop-holds c = search needs
