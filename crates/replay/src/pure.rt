@@ -9,6 +9,7 @@ use crate::say::say_one;
 use crate::say::say_places;
 use num_bits::MinMaxF64;
 use num_bits::MinMaxU64;
+use std::num::wrapping_add_usize;
 
 fn say_both(port: MinMaxU64) {
     match port {
@@ -59,25 +60,26 @@ pub fn minmax_of_patterns(patterns: &[u64]) {
     say_both(patterns_of(num_bits::minmax_f64(&floats[0..count])));
 }
 
-// Puts numbers of 32 bits into the places.
-fn narrow(numbers: &[u64], places: &mut [u32]) {
+// `LO HI OFFSET V0 V1 ..`: puts the values, which have 32 bits, into the places.
+fn narrow(step: &[u64], places: &mut [u32]) {
     for i in 0..places.len() {
-        places[i] = low_u32(at(numbers, i));
+        places[i] = low_u32(at(step, wrapping_add_usize(i, 3)));
     }
 }
 
-// `LO HI OFFSET V0 V1 ..`, answered by 0, by how many ids there are, and by every place of the slice.
+// Answered by 0, by how many ids there are, and by every place of the slice.
 pub fn filter(step: &[u64]) {
-    let mut room = areas::positions();
-    let places = &mut room[0..at_most(step.len() as u64, ROOM)];
-    narrow(step, places);
-    if places.len() < 3 {
+    if step.len() < 3 {
         return;
     }
-    let lo = places[0];
-    let hi = places[1];
-    let offset = places[2];
-    let values = &mut places[3..];
-    let found = filter_vec::filter_vec_in_place(lo, hi, offset, values);
-    say_places(0, found as u64, values);
+    let mut room = areas::positions();
+    let places = &mut room[0..at_most(step.len() as u64 - 3, ROOM)];
+    narrow(step, places);
+    let found = filter_vec::filter_vec_in_place(
+        low_u32(at(step, 0)),
+        low_u32(at(step, 1)),
+        low_u32(at(step, 2)),
+        places,
+    );
+    say_places(0, found as u64, places);
 }

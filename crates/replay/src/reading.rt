@@ -28,13 +28,18 @@ fn get_one(state: State, of_store: bool, index: u64, bytes: &[u8], entries: &[u6
     unpacker_of(state).get(low_u32(index), bytes)
 }
 
-// `START COUNT`: the values, each by a read of its own, up to the first that is refused. Answered by 0 or the
+// Reads one value after the other, as many as there are places for, up to the first that is refused. Says 0 or the
 // number of the refusal, and the values.
-pub fn get(state: State, of_store: bool, step: &[u64], bytes: &[u8], entries: &[u64]) {
-    let mut values = areas::numbers();
-    let start = at(step, 0);
-    let count = at_most(at(step, 1), ROOM);
-    for i in 0..count {
+fn get_each(
+    state: State,
+    of_store: bool,
+    start: u64,
+    bytes: &[u8],
+    entries: &[u64],
+    values: &mut [u64],
+) {
+    let mut i = 0;
+    while i < values.len() {
         match get_one(
             state,
             of_store,
@@ -50,8 +55,22 @@ pub fn get(state: State, of_store: bool, step: &[u64], bytes: &[u8], entries: &[
                 return;
             }
         }
+        i += 1;
     }
-    say(0, &values[0..count]);
+    say(0, values);
+}
+
+// `START COUNT`: the values, each by a read of its own.
+pub fn get(state: State, of_store: bool, step: &[u64], bytes: &[u8], entries: &[u64]) {
+    let mut room = areas::numbers();
+    get_each(
+        state,
+        of_store,
+        at(step, 0),
+        bytes,
+        entries,
+        &mut room[0..at_most(at(step, 1), ROOM)],
+    );
 }
 
 fn get_range(

@@ -1,20 +1,22 @@
 -- Safe and ending: a turn for each place.
 use borrow.Author.Needs.{needs}
-use native.Mathlib.Omega.{arith}
 use Prim.Native.Nat.{_-_, _≤_}
 use mathlib.Core.Path.{_≡_}
-use lib.ListN.{length, length-set}
+use lib.ListN.{length}
 use Rattle.replay.proofs.pure.narrow.Statement.{statement}
 use Rattle.replay.proofs.pure.narrow.Tie as tie
 
 abbrev Inv-loop : tie.InvT-loop
-Inv-loop numbers places₀ i₀ i-end places i = (length places ≡ i-end) × (i ≤ i-end) × (length places ≡ length places₀)
+Inv-loop step places₀ i₀ i-end places i = (length places ≡ i-end) × (i ≤ i-end) × (length places ≡ length places₀)
 
 abbrev μ-loop : tie.MeasureT-loop
-μ-loop numbers places₀ i₀ i-end places i = i-end - i
+μ-loop step places₀ i₀ i-end places i = i-end - i
 
 loop-holds : tie.Need-loop-holds Inv-loop μ-loop
 loop-holds c = search needs
+
+wrapping-add-usize-requires : tie.Need-wrapping-add-usize-requires Inv-loop μ-loop
+wrapping-add-usize-requires c κs = search needs
 
 at-requires : tie.Need-at-requires Inv-loop μ-loop
 at-requires c κs = search needs
@@ -35,7 +37,7 @@ loop-less : tie.Need-loop-less Inv-loop μ-loop
 loop-less c = search needs
 
 loop-again : tie.Need-loop-again Inv-loop μ-loop
-loop-again c = (simp length-set (omega arith), omega arith, simp length-set (omega arith))
+loop-again c = search needs
 
 same-length : tie.Need-same-length Inv-loop μ-loop
 same-length c = search needs
@@ -50,6 +52,7 @@ narrow-spec =
     Inv-loop
     μ-loop
     loop-holds
+    wrapping-add-usize-requires
     at-requires
     low-u32-requires
     mul-places

@@ -1,28 +1,17 @@
 -- Safe and ending: a turn for each value, for which there is a place.
 use borrow.Author.Needs.{needs}
+use native.Mathlib.Omega.{arith}
 use Prim.Native.Nat.{_-_, _≤_}
 use mathlib.Core.Path.{_≡_}
-use lib.ListN.{length}
-use Rattle.replay.proofs.reading.get.Statement.{statement}
-use Rattle.replay.proofs.reading.get.Tie as tie
+use lib.ListN.{length, length-set}
+use Rattle.replay.proofs.reading.get_each.Statement.{statement}
+use Rattle.replay.proofs.reading.get_each.Tie as tie
 
 abbrev Inv-loop : tie.InvT-loop
-Inv-loop state of-store step bytes entries values₀ start count i₀ values i = (i ≤ count) × (count ≤ 8192) × (length values ≡ 8192)
+Inv-loop state of-store start bytes entries values₀ i₀ values i = (length values ≡ length values₀) × (i ≤ length values)
 
 abbrev μ-loop : tie.MeasureT-loop
-μ-loop state of-store step bytes entries values₀ start count i₀ values i = count - i
-
-numbers-requires : tie.Need-numbers-requires Inv-loop μ-loop
-numbers-requires c κs = search needs
-
-at-requires : tie.Need-at-requires Inv-loop μ-loop
-at-requires c κs = search needs
-
-at-requires-2 : tie.Need-at-requires-2 Inv-loop μ-loop
-at-requires-2 c κs = search needs
-
-at-most-requires : tie.Need-at-most-requires Inv-loop μ-loop
-at-most-requires c κs = search needs
+μ-loop state of-store start bytes entries values₀ i₀ values i = length values - i
 
 loop-holds : tie.Need-loop-holds Inv-loop μ-loop
 loop-holds c = search needs
@@ -39,8 +28,8 @@ enum-known-value c = search needs
 mul-values : tie.Need-mul-values Inv-loop μ-loop
 mul-values c = search needs
 
-array-write-values : tie.Need-array-write-values Inv-loop μ-loop
-array-write-values c = search needs
+slice-write-values : tie.Need-slice-write-values Inv-loop μ-loop
+slice-write-values c = search needs
 
 enum-known-why : tie.Need-enum-known-why Inv-loop μ-loop
 enum-known-why c = search needs
@@ -63,6 +52,9 @@ part-say-end c = search needs
 say-requires : tie.Need-say-requires Inv-loop μ-loop
 say-requires c κs = search needs
 
+same-length : tie.Need-same-length Inv-loop μ-loop
+same-length c = search needs
+
 returns : tie.Need-returns Inv-loop μ-loop
 returns c = search needs
 
@@ -70,42 +62,32 @@ add-i : tie.Need-add-i Inv-loop μ-loop
 add-i c = search needs
 
 loop-less : tie.Need-loop-less Inv-loop μ-loop
-loop-less c = search needs
+loop-less c = simp length-set (omega arith)
 
 loop-again : tie.Need-loop-again Inv-loop μ-loop
-loop-again c = search needs
-
-sub-say-2 : tie.Need-sub-say-2 Inv-loop μ-loop
-sub-say-2 c = search needs
-
-part-say-start-2 : tie.Need-part-say-start-2 Inv-loop μ-loop
-part-say-start-2 c = search needs
-
-part-say-end-2 : tie.Need-part-say-end-2 Inv-loop μ-loop
-part-say-end-2 c = search needs
+loop-again c = (simp length-set (omega arith), simp length-set (omega arith))
 
 say-requires-2 : tie.Need-say-requires-2 Inv-loop μ-loop
 say-requires-2 c κs = search needs
 
+same-length-2 : tie.Need-same-length-2 Inv-loop μ-loop
+same-length-2 c = search needs
+
 returns-2 : tie.Need-returns-2 Inv-loop μ-loop
 returns-2 c = search needs
 
-pub get-spec : {M : Type 1} → statement M
-get-spec =
+pub get-each-spec : {M : Type 1} → statement M
+get-each-spec =
     tie.close
     (tie.spec
     Inv-loop
     μ-loop
-    numbers-requires
-    at-requires
-    at-requires-2
-    at-most-requires
     loop-holds
     wrapping-add-u64-requires
     get-one-requires
     enum-known-value
     mul-values
-    array-write-values
+    slice-write-values
     enum-known-why
     number-requires
     cast-say
@@ -113,12 +95,11 @@ get-spec =
     part-say-start
     part-say-end
     say-requires
+    same-length
     returns
     add-i
     loop-less
     loop-again
-    sub-say-2
-    part-say-start-2
-    part-say-end-2
     say-requires-2
+    same-length-2
     returns-2)
