@@ -1,4 +1,4 @@
-//! `store BYTES ENTRIES STEP STEP ..`: histories of the blocked store, drawn and taken on the Rust's.
+//! Histories of the blocked store, drawn and taken on the Rust's.
 
 use std::io::{self, Write};
 
