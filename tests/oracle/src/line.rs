@@ -66,19 +66,29 @@ impl Line {
 
     pub fn write(&self, out: &mut impl Write) -> io::Result<()> {
         assert!(self.arguments.len() < MOST_NUMBERS);
-        write!(out, "{:x}", self.kind as u64)?;
-        write_each(&self.arguments, out)?;
-        out.write_all(b" =")?;
-        write_each(&self.answer, out)?;
-        out.write_all(b"\n")
+        let mut text = Vec::new();
+        put(self.kind as u64, &mut text);
+        put_each(&self.arguments, &mut text);
+        text.extend(b" =");
+        put_each(&self.answer, &mut text);
+        text.push(b'\n');
+        out.write_all(&text)
     }
 }
 
-fn write_each(numbers: &[u64], out: &mut impl Write) -> io::Result<()> {
-    for number in numbers {
-        write!(out, " {number:x}")?;
+fn put_each(numbers: &[u64], text: &mut Vec<u8>) {
+    for &number in numbers {
+        text.push(b' ');
+        put(number, text);
     }
-    Ok(())
+}
+
+/// By hand: a hundred million numbers are written in a run.
+fn put(number: u64, text: &mut Vec<u8>) {
+    let digits = 1 + number.checked_ilog2().unwrap_or(0) / 4;
+    for digit in (0..digits).rev() {
+        text.push(b"0123456789abcdef"[(number >> (4 * digit)) as usize % 16]);
+    }
 }
 
 pub fn write(lines: &[Line], out: &mut impl Write) -> io::Result<()> {
