@@ -5,7 +5,7 @@ use std::io::{self, Write};
 
 use tantivy_bitpacker::{BitPacker, BlockedBitpacker, compute_num_bits};
 
-use crate::line::{self, BEFORE, Kind, Line, MOST_BYTES, MOST_ENTRIES};
+use crate::line::{self, Kind, Line, MOST_BYTES, MOST_ENTRIES};
 
 pub const BLOCK_SIZE: usize = 128;
 
@@ -130,12 +130,9 @@ impl Step {
             (Answer::Numbers(numbers), Question::Search(search)) => {
                 line::each_position(numbers, search.room)
             }
+            (Answer::Numbers(places), Question::Waiting) => [&[0], &places[..]].concat(),
             (Answer::Numbers(numbers), _) => numbers.clone(),
-            (Answer::Entries(words), _) => {
-                let mut all = words.clone();
-                all.resize(rooms.entries, BEFORE);
-                all
-            }
+            (Answer::Entries(words), _) => line::each_entry(words, rooms.entries),
             (Answer::Bytes(bytes), _) => line::each_byte(bytes, rooms.bytes),
         }
     }

@@ -37,9 +37,9 @@ pub enum Kind {
 }
 
 /// What every byte that the port may write holds before, and with it every place of 32 and of 64 bits.
-pub const BYTE_BEFORE: u8 = 0xa5;
+const BYTE_BEFORE: u8 = 0xa5;
 const POSITION_BEFORE: u64 = 0xa5a5_a5a5;
-pub const BEFORE: u64 = 0xa5a5_a5a5_a5a5_a5a5;
+const BEFORE: u64 = 0xa5a5_a5a5_a5a5_a5a5;
 
 /// The most numbers of a step, its kind among them.
 const MOST_NUMBERS: usize = 8_192;
@@ -135,9 +135,17 @@ fn words(bytes: &[u8]) -> Vec<u64> {
 
 /// The answer to a look at so many bytes, of which these were written and the others not.
 pub fn each_byte(written: &[u8], lent: usize) -> Vec<u64> {
-    let mut all = written.to_vec();
-    all.resize(lent, BYTE_BEFORE);
-    all.into_iter().map(u64::from).collect()
+    let mut all = vec![0];
+    all.extend(written.iter().copied().map(u64::from));
+    all.resize(1 + lent, u64::from(BYTE_BEFORE));
+    all
+}
+
+/// The same of entry words.
+pub fn each_entry(written: &[u64], lent: usize) -> Vec<u64> {
+    let mut all = [&[0], written].concat();
+    all.resize(1 + lent, BEFORE);
+    all
 }
 
 /// The answer of a range: 0 and its values, or a refusal, after which every place of the output is as it was.
