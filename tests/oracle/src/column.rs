@@ -1,16 +1,16 @@
-//! Columns of one width, drawn and packed by the Rust's own packer, and what is asked of them:
-//! `get`, `range` and `search`. A line has the width, 0 for an unpacker that `new` makes, the column's
-//! bytes, the question, then the answer, whose first number is 0 because the Rust refuses nothing.
+//! Columns of one width, drawn and packed by the Rust's own packer, and what is asked of them: a value, a range
+//! or a search. The column's bytes are lent, then come the unpacker that `new` makes for the width and the
+//! question, whose answer's first number is 0 because the Rust refuses nothing.
 
 use std::io::{self, Write};
 
 use tantivy_bitpacker::{BitPacker, BitUnpacker};
 
 use crate::draw::{Draw, spread};
-use crate::line;
+use crate::line::{self, Kind, Line};
 
 /// Every width that an unpacker takes.
-fn legal_widths() -> impl Iterator<Item = u8> {
+pub fn legal_widths() -> impl Iterator<Item = u8> {
     (0..=56).chain([64])
 }
 
@@ -20,13 +20,8 @@ const DATA_LENGTHS: [u64; 8] = [0, 1, 7, 8, 9, 15, 16, 17];
 /// The counts around which a range read changes its way through the values.
 const RANGE_COUNTS: [u64; 14] = [0, 1, 3, 4, 5, 7, 8, 9, 31, 32, 33, 63, 64, 65];
 
-/// The most ids of a search, so that a line has no more than 8,192 numbers, and the bytes that `replay`
-/// takes.
+/// The most ids of a search, so that the column has no more bytes than can be lent.
 const MOST_IDS: u64 = 4_000;
-const MOST_BYTES: usize = 32_768;
-
-/// In the place of the unpacker: the one that `new` makes.
-pub const MADE: u64 = 0;
 
 struct Column {
     width: u8,
@@ -47,19 +42,11 @@ impl Column {
         BitUnpacker::new(self.width)
     }
 
-    fn write(
-        &self,
-        out: &mut impl Write,
-        kind: &str,
-        question: &[u64],
-        answer: &[u64],
-    ) -> io::Result<()> {
-        let numbers: Vec<u64> = [u64::from(self.width), MADE]
-            .into_iter()
-            .chain(line::bytes(&self.data))
-            .chain(question.iter().copied())
-            .collect();
-        line::write(out, kind, &numbers, answer)
+    fn write(&self, question: Line, out: &mut impl Write) -> io::Result<()> {
+        let mut lines = line::lend_column(&self.data);
+        lines.push(Line::new(Kind::NewUnpacker, [u64::from(self.width)], [0]));
+        lines.push(question);
+        line::write(&lines, out)
     }
 }
 
@@ -118,7 +105,7 @@ pub fn write_get(count: u64, mut draw: Draw, out: &mut impl Write) -> io::Result
             (column, index)
         });
         let value = column.unpacker().get(index as u32, &column.data);
-        column.write(out, "get", &[index], &[0, value])?;
+        column.write(Line::new(Kind::ColumnGet, [index, 1], [0, value]), out)?;
     }
     Ok(())
 }
@@ -165,8 +152,9 @@ pub fn write_range(count: u64, mut draw: Draw, out: &mut impl Write) -> io::Resu
         column
             .unpacker()
             .get_range(span.start as u32, &column.data, &mut values);
-        let answer: Vec<u64> = [0].into_iter().chain(values).collect();
-        column.write(out, "range", &[span.start, span.count], &answer)?;
+        let answer = [vec![0], values].concat();
+        let arguments = [span.start, span.count];
+        column.write(Line::new(Kind::ColumnRange, arguments, answer), out)?;
     }
     Ok(())
 }
@@ -235,8 +223,9 @@ pub fn write_search(count: u64, mut draw: Draw, out: &mut impl Write) -> io::Res
             .collect();
         // Half of the searches are lent exactly as many positions as there are ids.
         let room = end.saturating_sub(start) + draw.below(2) * draw.below(40);
-        let question = [start, end, lowest, highest, room];
-        column.write(out, "search", &question, &answer)?;
+        let arguments = [lowest, highest, start, end, room];
+        let answer = line::each_position(&answer, room);
+        column.write(Line::new(Kind::ColumnSearch, arguments, answer), out)?;
     }
     Ok(())
 }
@@ -287,7 +276,6 @@ const INTERVALS: u64 = 8;
 /// A column that has the ids, and an interval of the given sort.
 fn search_of(draw: &mut Draw, width: u8, ids: Span, sort: u64) -> (Column, Search) {
     let column = column_of(draw, width, ids.start + ids.count);
-    assert!(column.data.len() <= MOST_BYTES);
     let values = column.values();
     let met = match values {
         0 => 0,

@@ -1,11 +1,10 @@
-//! `filter LO HI OFFSET COUNT V0 V1 .. ANSWER`: values of 32 bits, of which the ids of those in LO..=HI are
-//! kept. The answer is how many they are, then every place of the slice: the Rust cuts the rest off, and
-//! in the port it stays as it was.
+//! Values of 32 bits, of which the ids of those in an interval are kept. The answer has how many they are, then
+//! every place of the slice: the Rust cuts the rest off, and in the port it stays as it was.
 
 use std::io::{self, Write};
 
 use crate::draw::{Draw, spread};
-use crate::line;
+use crate::line::{Kind, Line};
 
 /// The Rust's own file, which its crate keeps to itself. `build` says where the crate is.
 mod scalar {
@@ -26,17 +25,17 @@ impl Filter {
         output
     }
 
-    /// The numbers of a case in which these are the ids.
-    pub fn numbers(&self, ids: &[u32]) -> Vec<u64> {
-        let bounds = [self.lowest, self.highest, self.offset].map(u64::from);
+    /// The step, where these are the ids.
+    pub fn line(&self, ids: &[u32]) -> Line {
+        let wide = |words: &[u32]| words.iter().copied().map(u64::from).collect::<Vec<_>>();
+        let arguments = [
+            wide(&[self.lowest, self.highest, self.offset]),
+            wide(&self.values),
+        ]
+        .concat();
         let rest = &self.values[ids.len()..];
-        bounds
-            .into_iter()
-            .chain([self.values.len() as u64])
-            .chain(self.values.iter().copied().map(u64::from))
-            .chain([ids.len() as u64])
-            .chain(ids.iter().chain(rest).copied().map(u64::from))
-            .collect()
+        let answer = [vec![0, ids.len() as u64], wide(ids), wide(rest)].concat();
+        Line::new(Kind::Filter, arguments, answer)
     }
 }
 
@@ -50,7 +49,7 @@ pub fn write(count: u64, mut draw: Draw, out: &mut impl Write) -> io::Result<()>
     let mut edges = spread(edges(&mut draw), count);
     for _ in 0..count {
         let filter = edges.next().unwrap_or_else(|| random(&mut draw));
-        line::write(out, "filter", &filter.numbers(&filter.by_the_rust()), &[])?;
+        filter.line(&filter.by_the_rust()).write(out)?;
     }
     Ok(())
 }

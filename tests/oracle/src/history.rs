@@ -1,20 +1,13 @@
-//! A history of the blocked store: steps, each a question and its answer, in the form of the kind `store`.
-//! `Recorder` takes the steps on the Rust's store and keeps its answers.
+//! A history of the blocked store: steps, each a question and its answer. `Recorder` takes the steps on the
+//! Rust's store and keeps its answers.
 
 use std::io::{self, Write};
 
 use tantivy_bitpacker::{BitPacker, BlockedBitpacker, compute_num_bits};
 
-use crate::line;
+use crate::line::{self, Kind, Line, MOST_BYTES, MOST_ENTRIES};
 
 pub const BLOCK_SIZE: usize = 128;
-
-/// The most numbers of a line.
-const MOST_NUMBERS: usize = 8_192;
-
-/// What every byte, every entry word and every number of an output holds before anything is written to it.
-const BYTE_BEFORE: u8 = 0xa5;
-pub const BEFORE: u64 = 0xa5a5_a5a5_a5a5_a5a5;
 
 pub enum Question {
     Make,
@@ -71,57 +64,47 @@ impl Question {
         )
     }
 
-    fn numbers(&self) -> Vec<u64> {
+    fn kind_and_arguments(&self) -> (Kind, Vec<u64>) {
         match self {
-            Question::Make => vec![0],
-            Question::Add(values) => [1].into_iter().chain(values.iter().copied()).collect(),
-            Question::Flush => vec![2],
-            Question::Count => vec![3],
-            Question::Get(span) => vec![4, span.start, span.count],
-            Question::Range(span) => vec![5, span.start, span.count],
-            Question::Search(s) => vec![6, s.lowest, s.highest, s.start, s.end, s.room],
-            Question::Fields => vec![7],
-            Question::Waiting => vec![8],
-            Question::Entries => vec![9],
-            Question::Bytes => vec![10],
-            Question::ForgeFields([used, blocks, waiting, last_length]) => {
-                vec![11, *used, *blocks, *waiting, *last_length]
+            Question::Make => (Kind::Make, vec![]),
+            Question::Add(values) => (Kind::Add, values.clone()),
+            Question::Flush => (Kind::Flush, vec![]),
+            Question::Count => (Kind::Count, vec![]),
+            Question::Get(span) => (Kind::StoreGet, vec![span.start, span.count]),
+            Question::Range(span) => (Kind::StoreRange, vec![span.start, span.count]),
+            Question::Search(search) => {
+                let Search {
+                    lowest,
+                    highest,
+                    start,
+                    end,
+                    room,
+                } = *search;
+                (Kind::StoreSearch, vec![lowest, highest, start, end, room])
             }
-            Question::ForgeEntry { place, word } => vec![12, *place, *word],
-            Question::ForgeByte { place, byte } => vec![13, *place, u64::from(*byte)],
+            Question::Fields => (Kind::Fields, vec![]),
+            Question::Waiting => (Kind::Waiting, vec![]),
+            Question::Entries => (Kind::Entries, vec![]),
+            Question::Bytes => (Kind::Bytes, vec![]),
+            Question::ForgeFields(fields) => (Kind::ForgeStore, fields.to_vec()),
+            Question::ForgeEntry { place, word } => {
+                (Kind::SetEntries, vec![*place, place + 1, *word])
+            }
+            Question::ForgeByte { place, byte } => {
+                (Kind::SetBytes, vec![*place, place + 1, u64::from(*byte)])
+            }
         }
     }
 }
 
 pub enum Answer {
+    /// Of a search 0 and the ids, or the refusal. Positions without an id are as they were.
     Numbers(Vec<u64>),
     /// The entry words of the blocks. Those after them are as they were.
     Entries(Vec<u64>),
     /// The bytes of the blocks and the eight zeros. Those after them are as they were.
     Bytes(Vec<u8>),
 }
-
-impl Answer {
-    fn numbers(&self, rooms: Rooms) -> Vec<u64> {
-        match self {
-            Answer::Numbers(numbers) => numbers.clone(),
-            Answer::Entries(words) => {
-                let mut all = words.clone();
-                all.resize(rooms.entries, BEFORE);
-                all
-            }
-            Answer::Bytes(bytes) => {
-                let mut all = bytes.clone();
-                all.resize(rooms.bytes, BYTE_BEFORE);
-                line::bytes(&all).collect()
-            }
-        }
-    }
-}
-
-/// The most bytes and entry words that a case may lend.
-const MOST_BYTES: usize = 32_768;
-const MOST_ENTRIES: usize = 256;
 
 /// How many bytes and entry words are lent.
 #[derive(Clone, Copy)]
@@ -141,6 +124,20 @@ pub struct Step {
     pub answer: Answer,
 }
 
+impl Step {
+    fn answer_in(&self, rooms: Rooms) -> Vec<u64> {
+        match (&self.answer, &self.question) {
+            (Answer::Numbers(numbers), Question::Search(search)) => {
+                line::each_position(numbers, search.room)
+            }
+            (Answer::Numbers(places), Question::Waiting) => [&[0], &places[..]].concat(),
+            (Answer::Numbers(numbers), _) => numbers.clone(),
+            (Answer::Entries(words), _) => line::each_entry(words, rooms.entries),
+            (Answer::Bytes(bytes), _) => line::each_byte(bytes, rooms.bytes),
+        }
+    }
+}
+
 /// How many numbers stand as answers, and how many of them are values read and ids found.
 #[derive(Default)]
 pub struct Compared {
@@ -155,31 +152,27 @@ impl Compared {
         self.answers += length;
         match question {
             Question::Get(_) | Question::Range(_) => self.values += length - 1,
-            Question::Search(_) => self.ids += length - 1,
+            Question::Search(_) => self.ids += answer[1],
             _ => {}
         }
     }
 }
 
-/// Writes a history as one case.
+/// Writes a history in areas of its own.
 pub fn write(
     steps: &[Step],
     rooms: Rooms,
     compared: &mut Compared,
     out: &mut impl Write,
 ) -> io::Result<()> {
-    let mut numbers = vec![rooms.bytes as u64, rooms.entries as u64];
+    line::write(&line::lend(rooms.bytes, rooms.entries), out)?;
     for step in steps {
-        let question = step.question.numbers();
-        let answer = step.answer.numbers(rooms);
+        let (kind, arguments) = step.question.kind_and_arguments();
+        let answer = step.answer_in(rooms);
         compared.count(&step.question, &answer);
-        for list in [question, answer] {
-            numbers.push(list.len() as u64);
-            numbers.extend(list);
-        }
+        Line::new(kind, arguments, answer).write(out)?;
     }
-    assert!(numbers.len() <= MOST_NUMBERS && rooms.fit_a_case());
-    line::write(out, "store", &numbers, &[])
+    Ok(())
 }
 
 /// What the Rust's store holds. Its fields are private; its `Debug` form tells them.
@@ -244,7 +237,7 @@ impl Recorder {
             closed: false,
             steps: Vec::new(),
         };
-        made.keep(Question::Make, vec![0]);
+        made.keep(Question::Make, vec![0, 0]);
         made
     }
 
@@ -271,7 +264,7 @@ impl Recorder {
     pub fn flush(&mut self) {
         self.rust.flush();
         self.closed |= self.values.len() % BLOCK_SIZE > 0;
-        self.keep(Question::Flush, vec![0]);
+        self.keep(Question::Flush, vec![0, 0]);
     }
 
     /// The Rust counts by its iterator, except where that reads on into a short block's padding.

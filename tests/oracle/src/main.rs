@@ -1,4 +1,4 @@
-//! Writes cases with the Rust's answers, for the program `replay` to run through the port:
+//! Writes the steps of cases with the Rust's answers; the program `replay` has the port take the same steps:
 //!
 //!     oracle SEED KIND COUNT [KIND COUNT ..]
 //!     oracle outside-cases
@@ -39,16 +39,14 @@ fn main() {
 }
 
 fn write_kinds(seed: u64, kinds: &[String], out: &mut impl Write) -> io::Result<()> {
-    let mut lines = 1;
     for pair in kinds.chunks(2) {
         let [kind, count] = pair else {
             fail("each kind has a count");
         };
         let count = number(count);
         write_kind(kind, count, Draw::new(seed, kind), out)?;
-        lines += count;
     }
-    writeln!(out, "end {lines:x}")
+    Ok(())
 }
 
 /// A kind's cases come from a sequence of their own, so that they stay the same beside other kinds.

@@ -1,4 +1,4 @@
-//! `minmax COUNT V0 V1 .. ANSWER` and `minmaxf` the same with the patterns of floats: lists of the lengths
+//! The lowest and the highest of numbers, and of floats, which are told by their patterns: lists of the lengths
 //! at which a block is empty, nearly full and full, with the values that an order can get wrong.
 
 use std::io::{self, Write};
@@ -6,7 +6,7 @@ use std::io::{self, Write};
 use tantivy_bitpacker::minmax;
 
 use crate::draw::Draw;
-use crate::line;
+use crate::line::{Kind, Line};
 
 /// The lengths around the ends of a block of 128.
 const LENGTHS: [u64; 6] = [0, 1, 2, 127, 128, 129];
@@ -16,7 +16,7 @@ pub fn write_u64(count: u64, mut draw: Draw, out: &mut impl Write) -> io::Result
     for _ in 0..count {
         let list = edges.next().unwrap_or_else(|| random_u64(&mut draw));
         let both = minmax(list.iter().copied());
-        write_list(out, "minmax", &list, both)?;
+        line_of(Kind::MinMax, list, both).write(out)?;
     }
     Ok(())
 }
@@ -27,29 +27,16 @@ pub fn write_f64(count: u64, mut draw: Draw, out: &mut impl Write) -> io::Result
         let list = edges.next().unwrap_or_else(|| random_f64(&mut draw));
         let both = minmax(list.iter().map(|pattern| f64::from_bits(*pattern)));
         assert!(both.is_none_or(|(lowest, highest)| !lowest.is_nan() && !highest.is_nan()));
-        write_list(
-            out,
-            "minmaxf",
-            &list,
-            both.map(|(lowest, highest)| (lowest.to_bits(), highest.to_bits())),
-        )?;
+        let patterns = both.map(|(lowest, highest)| (lowest.to_bits(), highest.to_bits()));
+        line_of(Kind::MinMaxOfFloats, list, patterns).write(out)?;
     }
     Ok(())
 }
 
-fn write_list(
-    out: &mut impl Write,
-    kind: &str,
-    list: &[u64],
-    both: Option<(u64, u64)>,
-) -> io::Result<()> {
-    let question: Vec<u64> = [list.len() as u64]
-        .into_iter()
-        .chain(list.iter().copied())
-        .collect();
+fn line_of(kind: Kind, list: Vec<u64>, both: Option<(u64, u64)>) -> Line {
     match both {
-        None => line::write(out, kind, &question, &[0]),
-        Some((lowest, highest)) => line::write(out, kind, &question, &[1, lowest, highest]),
+        None => Line::new(kind, list, [0]),
+        Some((lowest, highest)) => Line::new(kind, list, [1, lowest, highest]),
     }
 }
 

@@ -12,7 +12,7 @@ use std::any::Any;
 use std::io::{self, Write};
 use std::panic::{self, AssertUnwindSafe};
 
-use crate::line;
+use crate::line::{self, Line};
 
 /// A question, told in the cells of a row.
 trait Question {
@@ -24,8 +24,8 @@ trait Question {
     /// What the Rust does, in words. It may panic.
     fn rust(&self) -> String;
     fn port(&self) -> String;
-    /// The case's kind and numbers, or none where it is too large for a line.
-    fn case(&self) -> Option<(&'static str, Vec<u64>)>;
+    /// The steps of the case, or none where it has more bytes than can be lent.
+    fn case(&self) -> Option<Vec<Line>>;
 }
 
 fn questions() -> Vec<Box<dyn Question>> {
@@ -36,12 +36,9 @@ fn questions() -> Vec<Box<dyn Question>> {
 }
 
 pub fn write_cases(out: &mut impl Write) -> io::Result<()> {
-    let mut lines = 1;
-    for (kind, numbers) in questions().iter().filter_map(|question| question.case()) {
-        line::write(out, kind, &numbers, &[])?;
-        lines += 1;
-    }
-    writeln!(out, "end {lines:x}")
+    let questions = questions();
+    let mut cases = questions.iter().filter_map(|question| question.case());
+    cases.try_for_each(|lines| line::write(&lines, out))
 }
 
 pub fn print(out: &mut impl Write) -> io::Result<()> {

@@ -1,29 +1,66 @@
-//! `pack 0 0 COUNT WIDTH0 VALUE0 ROOM0 EMITTED0 WIDTH1 VALUE1 .. STREAM`: a new packer's fields, values of
-//! mixed widths with flushes anywhere among them, where the width is 100, each step with how many bytes
-//! the port is lent for it and how many it emitted, then the bytes.
+//! A packer that writes values of mixed widths, with flushes anywhere among them. The port is lent so many bytes
+//! for each behind what was emitted before; at the end every byte of the area is looked at.
 
 use std::io::{self, Write};
 
 use tantivy_bitpacker::BitPacker;
 
 use crate::draw::{Draw, spread};
-use crate::line;
+use crate::line::{self, Kind, Line};
 
 /// The fields of a new packer.
 pub const NEW: [u64; 2] = [0, 0];
 
-/// In the place of a width: a flush.
-pub const FLUSH: u64 = 0x100;
-
-struct Step {
-    width: u64,
-    value: u64,
+#[derive(Clone, Copy)]
+pub enum Asked {
+    Write { value: u64, width: u8 },
+    Flush,
 }
 
-const A_FLUSH: Step = Step {
-    width: FLUSH,
-    value: 0,
-};
+/// What was asked, how many bytes were lent for it, and how many it emitted or the number of its refusal.
+pub struct Step {
+    pub asked: Asked,
+    pub room: usize,
+    pub emitted: Result<u64, u64>,
+}
+
+/// The steps of a packer with these fields, in an area in which every step has its room, and the area's bytes
+/// then.
+pub fn lines(packer: [u64; 2], steps: &[Step], stream: &[u8]) -> Vec<Line> {
+    let mut taken = vec![match packer {
+        NEW => Line::new(Kind::NewPacker, [], [0]),
+        forged => Line::new(Kind::ForgePacker, forged, [0]),
+    }];
+    let (mut emitted, mut lent) = (0, 0);
+    for step in steps {
+        lent = lent.max(emitted + step.room);
+        taken.push(step.line());
+        emitted += step.emitted.unwrap_or(0) as usize;
+    }
+    assert_eq!(emitted, stream.len());
+    let bytes = line::each_byte(stream, lent);
+    taken.push(Line::new(Kind::Bytes, [], bytes));
+    let mut lines = line::lend(lent, 0);
+    lines.extend(taken);
+    lines
+}
+
+impl Step {
+    fn line(&self) -> Line {
+        let room = self.room as u64;
+        let answer = match self.emitted {
+            Ok(emitted) => vec![0, emitted],
+            Err(refusal) => vec![refusal],
+        };
+        match self.asked {
+            Asked::Write { value, width } => {
+                let arguments = [room, u64::from(width), value];
+                Line::new(Kind::PackerWrites, arguments, answer)
+            }
+            Asked::Flush => Line::new(Kind::PackerFlushes, [room], answer),
+        }
+    }
+}
 
 pub fn write(count: u64, mut draw: Draw, out: &mut impl Write) -> io::Result<()> {
     let mut edges = spread(edges(&mut draw), count);
@@ -35,40 +72,41 @@ pub fn write(count: u64, mut draw: Draw, out: &mut impl Write) -> io::Result<()>
 }
 
 /// Half of the steps are lent exactly as many bytes as they emit.
-fn write_case(steps: &[Step], draw: &mut Draw, out: &mut impl Write) -> io::Result<()> {
+fn write_case(all: &[Asked], draw: &mut Draw, out: &mut impl Write) -> io::Result<()> {
     let mut packer = BitPacker::new();
     let mut stream = Vec::new();
-    let mut numbers = NEW.to_vec();
-    numbers.push(4 * steps.len() as u64);
-    for step in steps {
+    let mut steps = Vec::new();
+    for &asked in all {
         let before = stream.len();
-        if step.width == FLUSH {
-            packer.flush(&mut stream)?;
-        } else {
-            packer.write(step.value, step.width as u8, &mut stream)?;
+        match asked {
+            Asked::Write { value, width } => packer.write(value, width, &mut stream)?,
+            Asked::Flush => packer.flush(&mut stream)?,
         }
         let emitted = (stream.len() - before) as u64;
-        let room = emitted + draw.below(2) * draw.below(20);
-        numbers.extend([step.width, step.value, room, emitted]);
+        let room = (emitted + draw.below(2) * draw.below(20)) as usize;
+        steps.push(Step {
+            asked,
+            room,
+            emitted: Ok(emitted),
+        });
     }
-    let stream: Vec<u64> = line::bytes(&stream).collect();
-    line::write(out, "pack", &numbers, &stream)
+    line::write(&lines(NEW, &steps, &stream), out)
 }
 
-fn largest(width: u64) -> u64 {
-    u64::MAX.checked_shr(64 - width as u32).unwrap_or(0)
+fn largest(width: u8) -> u64 {
+    u64::MAX.checked_shr(64 - u32::from(width)).unwrap_or(0)
 }
 
 /// For every pair of widths: the first is held, the second completes the word or does not; then a flush.
 /// Then runs at one width, of the largest value and of 1, and nothing but flushes.
-fn edges(draw: &mut Draw) -> Vec<Vec<Step>> {
-    let mut lists = vec![vec![], vec![A_FLUSH], vec![A_FLUSH, A_FLUSH]];
+fn edges(draw: &mut Draw) -> Vec<Vec<Asked>> {
+    let mut lists = vec![vec![], vec![Asked::Flush], vec![Asked::Flush, Asked::Flush]];
     for width in 0..=64 {
         for value in [largest(width), largest(width).min(1)] {
             lists.push(
                 (0..130)
-                    .map(|_| Step { width, value })
-                    .chain([A_FLUSH])
+                    .map(|_| Asked::Write { value, width })
+                    .chain([Asked::Flush])
                     .collect(),
             );
         }
@@ -76,16 +114,16 @@ fn edges(draw: &mut Draw) -> Vec<Vec<Step>> {
     for first in 0..=64 {
         for second in 0..=64 {
             lists.push(vec![
-                Step {
+                Asked::Write {
+                    value: draw.of_width(first),
                     width: first,
-                    value: draw.of_width(first as u8),
                 },
-                Step {
-                    width: second,
+                Asked::Write {
                     value: largest(second),
+                    width: second,
                 },
-                A_FLUSH,
-                Step { width: 3, value: 5 },
+                Asked::Flush,
+                Asked::Write { value: 5, width: 3 },
             ]);
         }
     }
@@ -93,7 +131,7 @@ fn edges(draw: &mut Draw) -> Vec<Vec<Step>> {
 }
 
 /// Short and long lists, of one width, of two, of narrow ones or of any, with no flush, few or many.
-fn random(draw: &mut Draw) -> Vec<Step> {
+fn random(draw: &mut Draw) -> Vec<Asked> {
     let length = match draw.below(4) {
         0 => draw.below(8),
         1 | 2 => draw.below(40),
@@ -105,17 +143,17 @@ fn random(draw: &mut Draw) -> Vec<Step> {
     (0..length)
         .map(|_| {
             if draw.below(flushes) == 0 {
-                return A_FLUSH;
+                return Asked::Flush;
             }
             let width = match sort {
                 0 => widths[0],
                 1 => draw.one_of(&widths),
                 2 => draw.below(9),
                 _ => draw.below(65),
-            };
-            Step {
+            } as u8;
+            Asked::Write {
+                value: draw.of_width(width),
                 width,
-                value: draw.of_width(width as u8),
             }
         })
         .collect()

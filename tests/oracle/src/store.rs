@@ -1,4 +1,4 @@
-//! `store BYTES ENTRIES STEP STEP ..`: histories of the blocked store, drawn and taken on the Rust's.
+//! Histories of the blocked store, drawn and taken on the Rust's.
 
 use std::io::{self, Write};
 
@@ -8,7 +8,7 @@ use crate::history::{self, BLOCK_SIZE, Compared, Recorder, Rooms, Search, Span};
 /// The lengths around which a block is sealed, and longer ones.
 const LENGTHS: [usize; 12] = [0, 1, 2, 127, 128, 129, 255, 256, 257, 384, 1_000, 2_100];
 
-/// Up to so many values every question is asked of all of them; of more only what a line has room for.
+/// Up to so many values every question is asked of all of them; of more only some, so that a history is not long.
 const ALL: usize = 450;
 
 struct Plan {

@@ -5,11 +5,8 @@ use std::ops::Range;
 use tantivy_bitpacker::BitUnpacker;
 
 use super::{NOT_RUN, Question, listed};
-use crate::column::MADE;
-use crate::line;
-
-/// In the place of the unpacker: its mask follows.
-const FIELDS: u64 = 1;
+use crate::column::legal_widths;
+use crate::line::{self, Kind, Line, MOST_BYTES};
 
 #[derive(Clone, Copy)]
 pub enum Unpacker {
@@ -56,9 +53,6 @@ pub struct Case {
     pub asked: Asked,
     pub port: Port,
 }
-
-/// The most bytes of a column that stands in a case.
-const MOST_BYTES: usize = 32_768;
 
 impl Question for Case {
     fn line(&self) -> &'static str {
@@ -119,32 +113,48 @@ impl Question for Case {
         }
     }
 
-    fn case(&self) -> Option<(&'static str, Vec<u64>)> {
+    /// Where `new` refuses there is no unpacker to ask.
+    fn case(&self) -> Option<Vec<Line>> {
         if self.data.len() > MOST_BYTES {
             return None;
         }
-        let unpacker = match self.unpacker {
-            Unpacker::New(width) => vec![u64::from(width), MADE],
-            Unpacker::Fields { width, mask } => vec![width, FIELDS, mask],
-        };
-        let (kind, asked) = self.asked.numbers();
         let answer = match &self.port {
             Port::Refuses(number) => vec![*number],
-            Port::Answers(values) => [0].into_iter().chain(values.iter().copied()).collect(),
+            Port::Answers(values) => [&[0], &values[..]].concat(),
         };
-        let numbers = unpacker.into_iter().chain(line::bytes(&self.data));
-        Some((kind, numbers.chain(asked).chain(answer).collect()))
+        let mut lines = line::lend_column(&self.data);
+        match self.unpacker {
+            Unpacker::New(width) if !legal_widths().any(|legal| legal == width) => {
+                lines.push(Line::new(Kind::NewUnpacker, [u64::from(width)], answer));
+                return Some(lines);
+            }
+            Unpacker::New(width) => {
+                lines.push(Line::new(Kind::NewUnpacker, [u64::from(width)], [0]));
+            }
+            Unpacker::Fields { width, mask } => {
+                lines.push(Line::new(Kind::ForgeUnpacker, [width, mask], [0]));
+            }
+        }
+        lines.push(self.asked.line(answer));
+        Some(lines)
     }
 }
 
 impl Asked {
-    fn numbers(&self) -> (&'static str, Vec<u64>) {
+    fn line(&self, answer: Vec<u64>) -> Line {
         match self {
-            Asked::Get(index) => ("get", vec![u64::from(*index)]),
-            Asked::Range { start, count } => ("range", vec![u64::from(*start), *count as u64]),
+            Asked::Get(index) => Line::new(Kind::ColumnGet, [u64::from(*index), 1], answer),
+            Asked::Range { start, count } => {
+                let count = *count as u64;
+                let answer = line::each_value(&answer, count);
+                Line::new(Kind::ColumnRange, [u64::from(*start), count], answer)
+            }
             Asked::Search { lowest, ids, room } => {
+                let room = *room as u64;
                 let [start, end] = [ids.start, ids.end].map(u64::from);
-                ("search", vec![start, end, *lowest, u64::MAX, *room as u64])
+                let answer = line::each_position(&answer, room);
+                let arguments = [*lowest, u64::MAX, start, end, room];
+                Line::new(Kind::ColumnSearch, arguments, answer)
             }
         }
     }

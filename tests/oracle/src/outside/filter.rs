@@ -2,6 +2,7 @@
 
 use super::{Question, listed};
 use crate::filter::Filter;
+use crate::line::Line;
 
 struct Case {
     line: &'static str,
@@ -72,7 +73,7 @@ impl Question for Case {
         format!("{}, then {} as before", listed(&self.ids), listed(rest))
     }
 
-    fn case(&self) -> Option<(&'static str, Vec<u64>)> {
-        Some(("filter", self.filter.numbers(&self.ids)))
+    fn case(&self) -> Option<Vec<Line>> {
+        Some(vec![self.filter.line(&self.ids)])
     }
 }

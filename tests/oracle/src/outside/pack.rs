@@ -5,11 +5,8 @@ use std::io;
 use tantivy_bitpacker::BitPacker;
 
 use super::{NOT_RUN, Question, run};
-use crate::line;
-use crate::pack::{FLUSH, NEW};
-
-/// Added to the number of a refusal in a case.
-const REFUSED: u64 = 0x100;
+use crate::line::Line;
+use crate::pack::{self, Asked, NEW};
 
 /// The bytes that a step is lent where nothing else is said.
 const ENOUGH: usize = 8;
@@ -21,11 +18,6 @@ pub struct Case {
     pub steps: Vec<Step>,
     /// The bytes that the port has emitted then, by document 01.
     pub stream: Vec<u8>,
-}
-
-enum Asked {
-    Write { value: u64, width: u8 },
-    Flush,
 }
 
 pub enum Port {
@@ -108,12 +100,9 @@ impl Question for Case {
         told(&answers, &self.stream)
     }
 
-    fn case(&self) -> Option<(&'static str, Vec<u64>)> {
-        let mut numbers = self.packer.to_vec();
-        numbers.push(4 * self.steps.len() as u64);
-        numbers.extend(self.steps.iter().flat_map(Step::numbers));
-        numbers.extend(line::bytes(&self.stream));
-        Some(("pack", numbers))
+    fn case(&self) -> Option<Vec<Line>> {
+        let steps: Vec<pack::Step> = self.steps.iter().map(Step::taken).collect();
+        Some(pack::lines(self.packer, &steps, &self.stream))
     }
 }
 
@@ -146,16 +135,15 @@ impl Step {
         }
     }
 
-    fn numbers(&self) -> [u64; 4] {
-        let (width, value) = match self.asked {
-            Asked::Write { value, width } => (u64::from(width), value),
-            Asked::Flush => (FLUSH, 0),
-        };
-        let answer = match self.port {
-            Port::Emits(bytes) => bytes,
-            Port::Refuses(number) => REFUSED + number,
-        };
-        [width, value, self.room as u64, answer]
+    fn taken(&self) -> pack::Step {
+        pack::Step {
+            asked: self.asked,
+            room: self.room,
+            emitted: match self.port {
+                Port::Emits(bytes) => Ok(bytes),
+                Port::Refuses(number) => Err(number),
+            },
+        }
     }
 }
 

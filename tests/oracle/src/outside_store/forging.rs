@@ -33,15 +33,15 @@ pub fn two_blocks() -> (History, Vec<u8>) {
 
 impl History {
     pub fn forge_fields(&mut self, fields: [u64; 4]) {
-        self.numbers(Question::ForgeFields(fields), &[]);
+        self.numbers(Question::ForgeFields(fields), &[0]);
     }
 
     pub fn forge_entry(&mut self, place: u64, word: u64) {
-        self.numbers(Question::ForgeEntry { place, word }, &[]);
+        self.numbers(Question::ForgeEntry { place, word }, &[0]);
     }
 
     pub fn forge_byte(&mut self, place: u64, byte: u8) {
-        self.numbers(Question::ForgeByte { place, byte }, &[]);
+        self.numbers(Question::ForgeByte { place, byte }, &[0]);
     }
 
     /// The values from an index on, each by a read of its own, and by one read.
