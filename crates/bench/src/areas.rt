@@ -3,9 +3,6 @@
 ghost use mathlib.Core.Path.{_≡_};
 ghost use lib.ListN.{length};
 
-// The most values, and as many positions.
-pub(crate) const VALUES: usize = 400_000;
-
 // The most bytes of a column or of a store.
 pub(crate) fn byte_area() -> [u8; 400_064]
     ensures { λ r. ⌜ 400064 ≡ length r ⌝ }
@@ -13,6 +10,7 @@ pub(crate) fn byte_area() -> [u8; 400_064]
     [0; 400_064]
 }
 
+// As many positions as there are values at most.
 pub(crate) fn position_area() -> [u32; 400_000]
     ensures { λ r. ⌜ 400000 ≡ length r ⌝ }
 {
