@@ -78,9 +78,10 @@ pub fn work(kind: u64, width: u8, count: u32, spacing: u32, times: usize) -> u64
     let Made::Unpacker(unpacker) = BitUnpacker::new(width) else {
         return 0;
     };
+    let data: &[u8] = &bytes;
     let mut sum = 0;
     for _ in 0..times {
-        sum = wrapping_add_u64(sum, ask(kind, unpacker, &bytes, count));
+        sum = wrapping_add_u64(sum, ask(kind, unpacker, data, count));
     }
     sum
 }

@@ -103,10 +103,11 @@ pub fn work(kind: u64, count: u32, spacing: u32, times: usize) -> u64 {
     let mut bytes = byte_area();
     let mut entries = entry_area();
     let store = fill(count as usize, spacing as usize, &mut bytes, &mut entries);
+    let data: &[u8] = &bytes;
+    let words: &[u64] = &entries;
     let mut sum = 0;
     for _ in 0..times {
-        let part = ask(kind, store, count, &bytes, &entries);
-        sum = wrapping_add_u64(sum, part);
+        sum = wrapping_add_u64(sum, ask(kind, store, count, data, words));
     }
     sum
 }

@@ -5,10 +5,10 @@ use Rattle.bench.proofs.column.work.Statement.{statement}
 use Rattle.bench.proofs.column.work.Tie as tie
 
 abbrev Inv-loop : tie.InvT-loop
-Inv-loop kind width count spacing times bytes unpacker sum₀ counter₀ sum counter = counter ≤ times
+Inv-loop kind width count spacing times unpacker «data» sum₀ counter₀ sum counter = counter ≤ times
 
 abbrev μ-loop : tie.MeasureT-loop
-μ-loop kind width count spacing times bytes unpacker sum₀ counter₀ sum counter = times - counter
+μ-loop kind width count spacing times unpacker «data» sum₀ counter₀ sum counter = times - counter
 
 byte-area-requires : tie.Need-byte-area-requires Inv-loop μ-loop
 byte-area-requires c κs = search needs
@@ -31,11 +31,11 @@ enum-told c = search needs
 returns : tie.Need-returns Inv-loop μ-loop
 returns c = search needs
 
+slice-aggregate-data : tie.Need-slice-aggregate-data Inv-loop μ-loop
+slice-aggregate-data c = search needs
+
 loop-holds : tie.Need-loop-holds Inv-loop μ-loop
 loop-holds c = search needs
-
-slice-aggregate-ask : tie.Need-slice-aggregate-ask Inv-loop μ-loop
-slice-aggregate-ask c = search needs
 
 ask-requires : tie.Need-ask-requires Inv-loop μ-loop
 ask-requires c κs = search needs
@@ -68,8 +68,8 @@ work-spec =
     enum-known-unpacker
     enum-told
     returns
+    slice-aggregate-data
     loop-holds
-    slice-aggregate-ask
     ask-requires
     wrapping-add-u64-requires
     add-counter

@@ -5,10 +5,10 @@ use Rattle.bench.proofs.store.work.Statement.{statement}
 use Rattle.bench.proofs.store.work.Tie as tie
 
 abbrev Inv-loop : tie.InvT-loop
-Inv-loop kind count spacing times bytes entries store sum₀ counter₀ sum counter = counter ≤ times
+Inv-loop kind count spacing times store «data» words sum₀ counter₀ sum counter = counter ≤ times
 
 abbrev μ-loop : tie.MeasureT-loop
-μ-loop kind count spacing times bytes entries store sum₀ counter₀ sum counter = times - counter
+μ-loop kind count spacing times store «data» words sum₀ counter₀ sum counter = times - counter
 
 byte-area-requires : tie.Need-byte-area-requires Inv-loop μ-loop
 byte-area-requires c κs = search needs
@@ -25,14 +25,14 @@ slice-aggregate-fill-2 c = search needs
 fill-requires : tie.Need-fill-requires Inv-loop μ-loop
 fill-requires c κs = search needs
 
+slice-aggregate-data : tie.Need-slice-aggregate-data Inv-loop μ-loop
+slice-aggregate-data c = search needs
+
+slice-aggregate-words : tie.Need-slice-aggregate-words Inv-loop μ-loop
+slice-aggregate-words c = search needs
+
 loop-holds : tie.Need-loop-holds Inv-loop μ-loop
 loop-holds c = search needs
-
-slice-aggregate-ask : tie.Need-slice-aggregate-ask Inv-loop μ-loop
-slice-aggregate-ask c = search needs
-
-slice-aggregate-ask-2 : tie.Need-slice-aggregate-ask-2 Inv-loop μ-loop
-slice-aggregate-ask-2 c = search needs
 
 ask-requires : tie.Need-ask-requires Inv-loop μ-loop
 ask-requires c κs = search needs
@@ -63,9 +63,9 @@ work-spec =
     slice-aggregate-fill
     slice-aggregate-fill-2
     fill-requires
+    slice-aggregate-data
+    slice-aggregate-words
     loop-holds
-    slice-aggregate-ask
-    slice-aggregate-ask-2
     ask-requires
     wrapping-add-u64-requires
     add-counter
