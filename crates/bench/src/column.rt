@@ -14,6 +14,16 @@ use std::num::wrapping_add_u64;
 // How far apart two reads are, so that they jump about in the column.
 const STRIDE: u32 = 1543;
 
+const LARGEST: u32 = 400_000;
+
+fn next(index: u32, count: u32) -> u32 {
+    if index > LARGEST {
+        return 0;
+    }
+    let far = index + STRIDE;
+    if far >= count { far - count } else { far }
+}
+
 fn get_each(unpacker: BitUnpacker, data: &[u8], count: u32) -> u64 {
     let mut sum = 0;
     let mut index: u32 = 0;
@@ -26,10 +36,7 @@ fn get_each(unpacker: BitUnpacker, data: &[u8], count: u32) -> u64 {
                 return 0;
             }
         }
-        index = wrapping_add_u32(index, STRIDE);
-        if index >= count {
-            index -= count;
-        }
+        index = next(index, count);
     }
     sum
 }

@@ -28,8 +28,8 @@ enum-told c = search needs
 returns : tie.Need-returns Inv-loop μ-loop
 returns c = search needs
 
-wrapping-add-u32-requires : tie.Need-wrapping-add-u32-requires Inv-loop μ-loop
-wrapping-add-u32-requires c κs = search needs
+next-requires : tie.Need-next-requires Inv-loop μ-loop
+next-requires c κs = search needs
 
 add-counter : tie.Need-add-counter Inv-loop μ-loop
 add-counter c = search needs
@@ -55,7 +55,7 @@ get-each-spec =
     wrapping-add-u64-requires
     enum-told
     returns
-    wrapping-add-u32-requires
+    next-requires
     add-counter
     loop-less
     loop-again
