@@ -8,50 +8,42 @@ mod number;
 mod pack;
 mod store;
 
-ghost use Prim.Native.Nat.{_≤_};
-use areas::VALUES;
-use column::Question;
 use libc::STDOUT_FILENO;
-use store::Task;
 
-fn work(kind: u64, width: u8, count: usize, spacing: usize, times: usize) -> u64
-    requires { ⌜ (count ≤ 400000) × (spacing ≤ 400000) ⌝ }
-{
-    let mut bytes = areas::byte_area();
+// The most values, and the widest spacing.
+const VALUES: u64 = 400_000;
+
+fn work(kind: u64, width: u8, count: u32, spacing: u32, times: usize) -> u64 {
     match kind {
-        0 => pack::pack(width, count, spacing, times, &mut bytes),
-        1 => column::work(Question::Get, width, count, spacing, times, &mut bytes),
-        2 => column::work(Question::Range64, width, count, spacing, times, &mut bytes),
-        3 => column::work(
-            Question::Range1000,
-            width,
-            count,
-            spacing,
-            times,
-            &mut bytes,
-        ),
-        4 => column::work(Question::Search, width, count, spacing, times, &mut bytes),
-        5 => store::add(count, spacing, times, &mut bytes),
-        6 => store::work(Task::Range, count, spacing, times, &mut bytes),
-        7 => store::work(Task::Search, count, spacing, times, &mut bytes),
-        8 => store::add_lent_each(count, spacing, times, &mut bytes),
+        0 => pack::work(width, count, spacing, times),
+        1..=4 => column::work(kind, width, count, spacing, times),
+        6 | 7 => store::work(kind, count, spacing, times),
+        5 | 8 => store::add(kind, count, spacing, times),
         _ => 0,
     }
 }
 
 fn main() {
     let width = number::argument(2);
-    let count = number::argument(3) as usize;
-    let spacing = number::argument(4) as usize;
+    let count = number::argument(3);
+    let spacing = number::argument(4);
     if width > 64 {
         return;
     }
-    if count <= VALUES {
-        if spacing <= VALUES {
-            let times = number::argument(5) as usize;
-            let sum = work(number::argument(1), width as u8, count, spacing, times);
-            io::print_decimal(STDOUT_FILENO, sum);
-            io::write_all(STDOUT_FILENO, b"\n");
-        }
+    if count > VALUES {
+        return;
     }
+    if spacing > VALUES {
+        return;
+    }
+    let times = number::argument(5) as usize;
+    let sum = work(
+        number::argument(1),
+        width as u8,
+        count as u32,
+        spacing as u32,
+        times,
+    );
+    io::print_decimal(STDOUT_FILENO, sum);
+    io::write_all(STDOUT_FILENO, b"\n");
 }

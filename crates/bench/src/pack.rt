@@ -1,8 +1,9 @@
 // Packing.
-ghost use Prim.Native.Nat.{_≤_};
+use crate::areas::byte_area;
 use bitpacker::BitPacker;
 use bitpacker::Written;
 use std::num::wrapping_add_u64;
+use std::num::wrapping_add_usize;
 
 // Every spacing-th value is 1.
 pub fn value_at(i: usize, spacing: usize) -> u64 {
@@ -13,7 +14,7 @@ pub fn value_at(i: usize, spacing: usize) -> u64 {
 }
 
 // Packs the values at the start of the bytes, and answers how many bytes were emitted.
-pub fn fill(width: u8, count: usize, spacing: usize, bytes: &mut [u8]) -> usize {
+pub fn fill(width: u8, count: usize, spacing: usize, bytes: &mut [u8]) -> u64 {
     let mut packer = BitPacker::new();
     let mut at = 0;
     for i in 0..count {
@@ -22,11 +23,8 @@ pub fn fill(width: u8, count: usize, spacing: usize, bytes: &mut [u8]) -> usize 
         }
         match packer.write(value_at(i, spacing), width, &mut bytes[at..]) {
             Written::Emitted(next, n) => {
-                if n > 8 {
-                    return 0;
-                }
                 packer = next;
-                at += n;
+                at = wrapping_add_usize(at, n);
             }
             Written::Refused(_) => {
                 return 0;
@@ -36,28 +34,23 @@ pub fn fill(width: u8, count: usize, spacing: usize, bytes: &mut [u8]) -> usize 
     finish(packer, at, bytes)
 }
 
-fn finish(packer: BitPacker, at: usize, bytes: &mut [u8]) -> usize {
+fn finish(packer: BitPacker, at: usize, bytes: &mut [u8]) -> u64 {
     if at > bytes.len() {
         return 0;
     }
     match packer.flush(&mut bytes[at..]) {
-        Written::Emitted(_, n) => {
-            if n > 8 {
-                return 0;
-            }
-            at + n
-        }
+        Written::Emitted(_, n) => wrapping_add_u64(at as u64, n as u64),
         Written::Refused(_) => 0,
     }
 }
 
 // Twice the same would be done once: the spacing is now one, now the next.
-pub fn pack(width: u8, count: usize, spacing: usize, times: usize, bytes: &mut [u8]) -> u64
-    requires { ⌜ spacing ≤ 400000 ⌝ }
-{
+pub fn work(width: u8, count: u32, spacing: u32, times: usize) -> u64 {
+    let mut bytes = byte_area();
     let mut sum = 0;
     for i in 0..times {
-        sum = wrapping_add_u64(sum, fill(width, count, spacing + i % 2, bytes) as u64);
+        let emitted = fill(width, count as usize, spacing as usize + i % 2, &mut bytes);
+        sum = wrapping_add_u64(sum, emitted);
     }
     sum
 }

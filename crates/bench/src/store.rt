@@ -1,21 +1,13 @@
 // Adding to a store, reading it and searching it.
-ghost use Prim.Native.Nat.{_≤_, _<_};
-ghost use lib.ListN.{length};
+use crate::areas::byte_area;
+use crate::areas::bytes_lent;
 use crate::areas::entry_area;
 use crate::areas::position_area;
 use crate::pack;
 use bitunpacker::Filled;
 use bitunpacker::Found;
 use blocked_bitpacker::BlockedBitpacker;
-use blocked_bitpacker::Done;
 use std::num::wrapping_add_u64;
-
-// What is done with the store.
-pub enum Task {
-    Add,
-    Range,
-    Search,
-}
 
 fn fill(count: usize, spacing: usize, bytes: &mut [u8], entries: &mut [u64]) -> BlockedBitpacker {
     let made = BlockedBitpacker::new(bytes);
@@ -53,10 +45,10 @@ fn fill_lent(
 }
 
 // The whole store, 1,000 values at a time.
-fn range(store: BlockedBitpacker, count: usize, bytes: &[u8], entries: &[u64]) -> u64 {
+fn range(store: BlockedBitpacker, count: u32, bytes: &[u8], entries: &[u64]) -> u64 {
     let mut output = [0; 1000];
     let mut sum = 0;
-    for i in 0..count / 1000 {
+    for i in 0..count as usize / 1000 {
         match store.get_range(i * 1000, bytes, entries, &mut output) {
             Filled::Done => {
                 sum = wrapping_add_u64(sum, output[0]);
@@ -69,87 +61,54 @@ fn range(store: BlockedBitpacker, count: usize, bytes: &[u8], entries: &[u64]) -
     sum
 }
 
-fn search(store: BlockedBitpacker, count: usize, bytes: &[u8], entries: &[u64]) -> u64
-    requires { ⌜ count ≤ 400000 ⌝ }
-{
+fn search(store: BlockedBitpacker, count: u32, bytes: &[u8], entries: &[u64]) -> u64 {
     let mut positions = position_area();
-    match store.get_ids_for_value_range(1, 1, 0, count as u32, bytes, entries, &mut positions) {
+    match store.get_ids_for_value_range(1, 1, 0, count, bytes, entries, &mut positions) {
         Found::Ids(found) => found as u64,
         Found::Refused(_) => 0,
     }
 }
 
-fn ask(task: Task, store: BlockedBitpacker, count: usize, bytes: &[u8], entries: &[u64]) -> u64
-    requires { ⌜ count ≤ 400000 ⌝ }
-{
-    match task {
-        Task::Add => 0,
-        Task::Range => range(store, count, bytes, entries),
-        Task::Search => search(store, count, bytes, entries),
+fn add_once(kind: u64, count: usize, spacing: usize, bytes: &mut [u8], entries: &mut [u64]) -> u64 {
+    if kind == 5 {
+        return fill(count, spacing, bytes, entries).used as u64;
     }
+    fill_lent(count, spacing, bytes, entries).used as u64
 }
 
-fn ask_each(
-    task: Task,
-    store: BlockedBitpacker,
-    count: usize,
-    times: usize,
-    bytes: &[u8],
-    entries: &[u64],
-) -> u64
-    requires { ⌜ count ≤ 400000 ⌝ }
-{
+pub fn add(kind: u64, count: u32, spacing: u32, times: usize) -> u64 {
+    let mut bytes = byte_area();
+    let mut entries = entry_area();
     let mut sum = 0;
     for _ in 0..times {
-        sum = wrapping_add_u64(sum, ask(task, store, count, bytes, entries));
+        let part = add_once(
+            kind,
+            count as usize,
+            spacing as usize,
+            &mut bytes,
+            &mut entries,
+        );
+        sum = wrapping_add_u64(sum, part);
     }
     sum
 }
 
-fn fill_each(
-    count: usize,
-    spacing: usize,
-    times: usize,
-    bytes: &mut [u8],
-    entries: &mut [u64],
-) -> u64 {
+fn ask(kind: u64, store: BlockedBitpacker, count: u32, bytes: &[u8], entries: &[u64]) -> u64 {
+    if kind == 7 {
+        return search(store, count, bytes, entries);
+    }
+    range(store, count, bytes, entries)
+}
+
+pub fn work(kind: u64, count: u32, spacing: u32, times: usize) -> u64 {
+    let mut bytes = byte_area();
+    let mut entries = entry_area();
+    let store = fill(count as usize, spacing as usize, &mut bytes, &mut entries);
+    let data = &bytes[0..bytes_lent(count)];
+    let words: &[u64] = &entries;
     let mut sum = 0;
     for _ in 0..times {
-        let store = fill(count, spacing, bytes, entries);
-        sum = wrapping_add_u64(sum, store.used as u64);
+        sum = wrapping_add_u64(sum, ask(kind, store, count, data, words));
     }
     sum
-}
-
-fn fill_lent_each(
-    count: usize,
-    spacing: usize,
-    times: usize,
-    bytes: &mut [u8],
-    entries: &mut [u64],
-) -> u64 {
-    let mut sum = 0;
-    for _ in 0..times {
-        let store = fill_lent(count, spacing, bytes, entries);
-        sum = wrapping_add_u64(sum, store.used as u64);
-    }
-    sum
-}
-
-pub fn add(count: usize, spacing: usize, times: usize, bytes: &mut [u8]) -> u64 {
-    let mut entries = entry_area();
-    fill_each(count, spacing, times, bytes, &mut entries)
-}
-
-pub fn add_lent_each(count: usize, spacing: usize, times: usize, bytes: &mut [u8]) -> u64 {
-    let mut entries = entry_area();
-    fill_lent_each(count, spacing, times, bytes, &mut entries)
-}
-
-pub fn work(task: Task, count: usize, spacing: usize, times: usize, bytes: &mut [u8]) -> u64
-    requires { ⌜ count ≤ 400000 ⌝ }
-{
-    let mut entries = entry_area();
-    let store = fill(count, spacing, bytes, &mut entries);
-    ask_each(task, store, count, times, bytes, &entries)
 }

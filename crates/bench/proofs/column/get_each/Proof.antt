@@ -28,9 +28,6 @@ enum-told c = search needs
 returns : tie.Need-returns Inv-loop μ-loop
 returns c = search needs
 
-cast-next : tie.Need-cast-next Inv-loop μ-loop
-cast-next c = search needs
-
 next-requires : tie.Need-next-requires Inv-loop μ-loop
 next-requires c κs = search needs
 
@@ -58,7 +55,6 @@ get-each-spec =
     wrapping-add-u64-requires
     enum-told
     returns
-    cast-next
     next-requires
     add-counter
     loop-less

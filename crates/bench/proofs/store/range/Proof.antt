@@ -1,8 +1,8 @@
--- Safe and ending: a turn for each range.
+-- Safe and ending: a turn for each range, and the output keeps its length.
 use borrow.Author.Needs.{needs}
+use lib.ListN.{length}
 use mathlib.Core.Path.{_≡_}
 use Prim.Native.Nat.{_-_, _/_, _≤_}
-use lib.ListN.{length}
 use Rattle.bench.proofs.store.range.Statement.{statement}
 use Rattle.bench.proofs.store.range.Tie as tie
 

@@ -1,0 +1,78 @@
+-- Safe and ending: a turn for each time that the work is done.
+use borrow.Author.Needs.{needs}
+use Prim.Native.Nat.{_-_, _≤_}
+use Rattle.bench.proofs.column.work.Statement.{statement}
+use Rattle.bench.proofs.column.work.Tie as tie
+
+abbrev Inv-loop : tie.InvT-loop
+Inv-loop kind width count spacing times unpacker «data» sum₀ counter₀ sum counter = counter ≤ times
+
+abbrev μ-loop : tie.MeasureT-loop
+μ-loop kind width count spacing times unpacker «data» sum₀ counter₀ sum counter = times - counter
+
+byte-area-requires : tie.Need-byte-area-requires Inv-loop μ-loop
+byte-area-requires c κs = search needs
+
+slice-aggregate-fill : tie.Need-slice-aggregate-fill Inv-loop μ-loop
+slice-aggregate-fill c = search needs
+
+fill-requires : tie.Need-fill-requires Inv-loop μ-loop
+fill-requires c κs = search needs
+
+new-requires : tie.Need-new-requires Inv-loop μ-loop
+new-requires c κs = search needs
+
+enum-known-unpacker : tie.Need-enum-known-unpacker Inv-loop μ-loop
+enum-known-unpacker c = search needs
+
+enum-told : tie.Need-enum-told Inv-loop μ-loop
+enum-told c = search needs
+
+returns : tie.Need-returns Inv-loop μ-loop
+returns c = search needs
+
+slice-aggregate-data : tie.Need-slice-aggregate-data Inv-loop μ-loop
+slice-aggregate-data c = search needs
+
+loop-holds : tie.Need-loop-holds Inv-loop μ-loop
+loop-holds c = search needs
+
+ask-requires : tie.Need-ask-requires Inv-loop μ-loop
+ask-requires c κs = search needs
+
+wrapping-add-u64-requires : tie.Need-wrapping-add-u64-requires Inv-loop μ-loop
+wrapping-add-u64-requires c κs = search needs
+
+add-counter : tie.Need-add-counter Inv-loop μ-loop
+add-counter c = search needs
+
+loop-less : tie.Need-loop-less Inv-loop μ-loop
+loop-less c = search needs
+
+loop-again : tie.Need-loop-again Inv-loop μ-loop
+loop-again c = search needs
+
+returns-2 : tie.Need-returns-2 Inv-loop μ-loop
+returns-2 c = search needs
+
+pub work-spec : {M : Type 1} → statement M
+work-spec =
+    tie.close
+    (tie.spec
+    Inv-loop
+    μ-loop
+    byte-area-requires
+    slice-aggregate-fill
+    fill-requires
+    new-requires
+    enum-known-unpacker
+    enum-told
+    returns
+    slice-aggregate-data
+    loop-holds
+    ask-requires
+    wrapping-add-u64-requires
+    add-counter
+    loop-less
+    loop-again
+    returns-2)
