@@ -3,12 +3,13 @@
 use crate::BitUnpacker;
 use crate::bits::bits_at;
 use filter_vec::filter_vec_in_place;
+use filter_vec::lies_between;
 ghost use mathlib.Core.Path.{_≡_};
 ghost use mathlib.Core.Bool.{true};
 ghost use Prim.Native.Nat.{_+_, _-_, _*_, _%_, _^_, _≤_, _<_, min};
 ghost use lib.ListN.{length};
 ghost use Rattle.bit_rule.specs.Place.{valuesFrom};
-ghost use Rattle.bit_rule.specs.Search.{liesBetween, matchingIds, atStart, pastedAt};
+ghost use Rattle.bit_rule.specs.Search.{matchingIds, atStart, pastedAt};
 ghost use Rattle.bitunpacker.specs.Parts.{InData, Kept};
 ghost use Rattle.bitunpacker.specs.Unpacker.{idsOf};
 
@@ -209,12 +210,6 @@ fn find_wide(
         id += 1;
     }
     found
-}
-
-fn lies_between(lo: u64, hi: u64, value: u64) -> bool
-    ensures { λ r. ⌜ r ≡ liesBetween lo hi value ⌝ }
-{
-    lo <= value && value <= hi
 }
 
 // An upper end brought down to the largest that a value of 32 bits can be.

@@ -3,12 +3,13 @@ use crate::BlockedBitpacker;
 use bitunpacker::BitUnpacker;
 use bitunpacker::Got;
 use bitunpacker::Made;
+use filter_vec::lies_between;
 use refusal::Refusal;
 ghost use mathlib.Core.Path.{_≡_};
 ghost use mathlib.Core.Bool.{false};
 ghost use Prim.Native.Nat.{ℕ, _+_, _-_, _*_, _/_, _%_, _^_, _≤_, _<_, min};
 ghost use lib.ListN.{length, getD};
-ghost use Rattle.bit_rule.specs.Search.{liesBetween, matchingIds};
+ghost use Rattle.bit_rule.specs.Search.{matchingIds};
 ghost use Rattle.bitunpacker.specs.Parts.{Kept};
 ghost use Rattle.block.specs.Block.{entryOffset, entryWidth, entryBase, damagedEntry};
 ghost use Rattle.blocked_bitpacker.specs.Store.{SoundIn, damagedStore, countOf, lengthOfBlock, valuesOf, touchedDamaged};
@@ -182,12 +183,6 @@ pub(crate) fn read_all(
         read_stretch(store, idx, bytes, entries, &mut output[done..next]);
         done = next;
     }
-}
-
-fn lies_between(lo: u64, hi: u64, value: u64) -> bool
-    ensures { λ r. ⌜ r ≡ liesBetween lo hi value ⌝ }
-{
-    lo <= value && value <= hi
 }
 
 // Writes the ids of matching values to the start of the positions, and says how many they are.

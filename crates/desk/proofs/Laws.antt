@@ -18,11 +18,11 @@ use Rattle.refusal.specs.declared.Refusal.{Refusal}
 use Rattle.refusal.specs.declared.Refusal.the-variants.{Damaged}
 use Rattle.bitunpacker.specs.declared.Found.the-variants.{Refused as NotFound}
 use Rattle.bitunpacker.specs.Unpacker.{search}
-use Rattle.blocked_bitpacker.specs.declared.Counted.{Counted}
 use Rattle.blocked_bitpacker.specs.declared.Counted.the-variants.{Count, Refused as NotCounted}
 use Rattle.blocked_bitpacker.specs.Calls.{countedOf, searchOf}
 use Rattle.blocked_bitpacker.proofs.Judged.{judged}
 use Rattle.blocked_bitpacker.proofs.Values.{count-small}
+use Rattle.blocked_bitpacker.proofs.Counting.{not-counted as refused-count}
 use Rattle.decimal.specs.declared.Numeral.{Numeral}
 use Rattle.desk.specs.declared.words.Fault.{Fault}
 use Rattle.desk.specs.declared.words.Request.{Request}
@@ -53,50 +53,8 @@ module _ (s : BlockedBitpacker) (lo hi : ℕ) (bytes entries positions : List �
   -- a store that cannot be counted cannot be searched, for the same reason
   pub not-counted : (why : Refusal) (end : ℕ) → countedOf s bytes entries ≡ NotCounted why
       → search (NotFound why) positions ≡ searchOf s lo hi 0 end bytes entries positions
-  unfolding searchOf countedOf
-  not-counted why end is =
-      ⊎-elim
-      (λ (damaged : damagedStore s (length bytes) (length entries) ≡ true).
-      let same : NotCounted Damaged ≡ NotCounted why = simp damaged at is in
-      simp damaged (ap (λ c. search (NotFound (whyOf c)) positions) (sym same)))
-      (λ (fine : damagedStore s (length bytes) (length entries) ≡ false).
-      let other : Count (countOf s) ≡ NotCounted why = simp fine at is in
-      absurd (differ (ap isCounted other)))
-      (true-or-false (damagedStore s (length bytes) (length entries)))
-    where
-      whyOf : Counted → Refusal
-      whyOf (Count n) = Damaged
-      whyOf (NotCounted w) = w
-
-      isCounted : Counted → ℕ
-      isCounted (Count n) = 1
-      isCounted (NotCounted w) = 0
-
-      differ : _≡_ {A = ℕ} 1 0 → ⊥
-      differ e = omega (arith, e)
-
-  pub is-count : (n : ℕ) → countedOf s bytes entries ≡ Count n → n ≡ countOf s
-  unfolding countedOf
-  is-count n is =
-      ⊎-elim
-      (λ (damaged : damagedStore s (length bytes) (length entries) ≡ true).
-      let other : NotCounted Damaged ≡ Count n = simp damaged at is in
-      absurd (differ (ap isCounted other)))
-      (λ (fine : damagedStore s (length bytes) (length entries) ≡ false).
-      let same : Count (countOf s) ≡ Count n = simp fine at is in
-      sym (ap numberOf same))
-      (true-or-false (damagedStore s (length bytes) (length entries)))
-    where
-      numberOf : Counted → ℕ
-      numberOf (Count m) = m
-      numberOf (NotCounted w) = 0
-
-      isCounted : Counted → ℕ
-      isCounted (Count m) = 1
-      isCounted (NotCounted w) = 0
-
-      differ : _≡_ {A = ℕ} 0 1 → ⊥
-      differ e = omega (arith, e)
+  unfolding searchOf
+  not-counted why end is = let said = refused-count s bytes entries why is in simp (said .0, said .1)
 
 -- ---- words
 

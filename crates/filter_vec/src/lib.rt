@@ -6,10 +6,17 @@ ghost use Prim.Native.Nat.{_-_, _^_, min};
 ghost use Rattle.bit_rule.specs.Search.{liesBetween};
 ghost use Rattle.filter_vec.specs.Filter.{filtered, filterOf};
 
-fn lies_between(lo: u32, hi: u32, val: u32) -> bool
+// Whether a value lies in lo..=hi.
+pub fn lies_between(lo: u64, hi: u64, val: u64) -> bool
     ensures { λ r. ⌜ r ≡ liesBetween lo hi val ⌝ }
 {
     lo <= val && val <= hi
+}
+
+fn wide(val: u32) -> u64
+    ensures { λ r. ⌜ r ≡ val ⌝ }
+{
+    val as u64
 }
 
 // How many of so many values have an id: those whose id, counted from the offset on, is a u32.
@@ -30,7 +37,7 @@ pub fn filter_vec_in_place(lo: u32, hi: u32, offset: u32, output: &mut [u32]) ->
     let mut count = 0;
     let mut i = 0;
     while i < end {
-        if lies_between(lo, hi, output[i]) {
+        if lies_between(lo as u64, hi as u64, wide(output[i])) {
             output[count] = offset + i as u32;
             count += 1;
         }

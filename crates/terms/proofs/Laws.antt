@@ -16,6 +16,7 @@ use Rattle.blocked_bitpacker.specs.declared.Counted.the-variants.{Count, Refuse
 use Rattle.blocked_bitpacker.specs.declared.Stored.{Stored}
 use Rattle.blocked_bitpacker.specs.Store.{blockLimit, damagedStore}
 use Rattle.blocked_bitpacker.specs.Calls.{changed, refusedCall, addOf, countedOf}
+use Rattle.blocked_bitpacker.proofs.Counting.{not-counted}
 use Rattle.decimal.specs.declared.Numeral.{Numeral}
 use Rattle.decimal.specs.declared.line.Line.{Line}
 use Rattle.decimal.specs.Line.{byteOf, endedOf}
@@ -28,30 +29,11 @@ use Rattle.terms.specs.Loading.{begun, stoppedBy, loadedBy, nothingRead,
 
 -- ---- one number
 
-refused-by-the-one-check : (t : Bool) (n : ℕ) (why : Refusal) → cond t (NotCounted Damaged) (Count n) ≡ NotCounted why
-    → (t ≡ true) × (why ≡ Damaged)
-refused-by-the-one-check true n why e = (refl, cc)
-refused-by-the-one-check false n why e = absurd (let z : _≡_ {A = ℕ} 0 1 = cc in omega arith)
-
-counted-past-the-one-check : (t : Bool) (n m : ℕ) → cond t (NotCounted Damaged) (Count n) ≡ Count m → t ≡ false
-counted-past-the-one-check true n m e = absurd (let z : _≡_ {A = ℕ} 0 1 = cc in omega arith)
-counted-past-the-one-check false n m e = refl
-
 module _ (s : BlockedBitpacker) (bytes entries : List ℕ) where
-  -- a store that cannot be counted is damaged
-  not-counted : (why : Refusal) → countedOf s bytes entries ≡ NotCounted why
-      → (damagedStore s (length bytes) (length entries) ≡ true) × (why ≡ Damaged)
-  unfolding countedOf
-  not-counted why e = refused-by-the-one-check _ _ why e
-
-  pub counted : (n : ℕ) → countedOf s bytes entries ≡ Count n → damagedStore s (length bytes) (length entries) ≡ false
-  unfolding countedOf
-  counted n e = counted-past-the-one-check _ _ n e
-
   pub damaged-refused : (v : ℕ) (why : Refusal) → countedOf s bytes entries ≡ NotCounted why
       → refusedCall why s bytes entries ≡ addLineOf s v bytes entries
   unfolding addLineOf
-  damaged-refused v why e = let said = not-counted why e in simp (said .0, said .1)
+  damaged-refused v why e = let said = not-counted s bytes entries why e in simp (said .0, said .1)
 
   pub past-limit-refused : (v : ℕ) → damagedStore s (length bytes) (length entries) ≡ false → blockLimit ≤ s .blocks
       → refusedCall EntriesFull s bytes entries ≡ addLineOf s v bytes entries

@@ -1,8 +1,9 @@
 -- A store that is counted has its count for the range's end; one that is not is refused as the search refuses it.
 use mathlib.Core.Path.{sym, ap, _∙_}
 use borrow.Author.Needs.{needs}
-use Rattle.desk.proofs.Laws.{not-counted, is-count}
+use Rattle.desk.proofs.Laws.{not-counted}
 use Rattle.blocked_bitpacker.specs.Calls.{searchOf}
+use Rattle.blocked_bitpacker.proofs.Counting.{counted}
 use Rattle.desk.proofs.list_all.Statement.{statement}
 use Rattle.desk.proofs.list_all.Tie as tie
 
@@ -28,11 +29,11 @@ returns-2 : tie.Need-returns-2
 returns-2 c =
     let at-list = c .before .before in
     let told = at-list .before .before .before in
-    let counted = told .before .before in
-    let args = counted .before .before .before .before .args in
+    let asked = told .before .before in
+    let args = asked .before .before .before .before .args in
     at-list .list .ensures
     ∙ ap (λ end. searchOf (args .store) (args .lo) (args .hi) 0 end (args .bytes .now) (args .entries .now) (args .positions .now))
-    (is-count (args .store) (args .lo) (args .hi) (args .bytes .now) (args .entries .now) (args .positions .now) _ (sym (counted .count .ensures) ∙ told .values .given .1))
+    (counted (args .store) (args .bytes .now) (args .entries .now) _ (sym (asked .count .ensures) ∙ told .values .given .1) .1)
 
 pub list-all-spec : {M : Type 1} → statement M
 list-all-spec =

@@ -1,10 +1,11 @@
 -- After i turns the count and the slice are the filter's over the first i values: a turn adds the id of its value or leaves both as they are.
 -- The measure is what is left of the values that have an id.
-use mathlib.Core.Path.{sym, _∙_}
+use mathlib.Core.Path.{sym, ap, _∙_}
 use mathlib.Core.Logic.{⊎-elim}
 use Prim.Native.Nat.{_≤_, _-_, zero-le}
 use native.Mathlib.Omega.{arith}
 use borrow.Author.Needs.{needs}
+use Rattle.bit_rule.specs.Search.{liesBetween}
 use Rattle.filter_vec.proofs.Turn.{Passed, none-passed, turn-match, turn-pass, all-passed}
 use Rattle.filter_vec.proofs.filter_vec_in_place.Statement.{statement}
 use Rattle.filter_vec.proofs.filter_vec_in_place.Tie as tie
@@ -21,11 +22,14 @@ values-with-id-requires c κs = search needs
 loop-holds : tie.Need-loop-holds Inv-loop μ-loop
 loop-holds c = (zero-le, none-passed _ _ _ _)
 
-mul-lies-between : tie.Need-mul-lies-between Inv-loop μ-loop
-mul-lies-between c = omega arith
+mul-wide : tie.Need-mul-wide Inv-loop μ-loop
+mul-wide c = omega arith
 
-slice-read-lies-between : tie.Need-slice-read-lies-between Inv-loop μ-loop
-slice-read-lies-between c = omega arith
+slice-read-wide : tie.Need-slice-read-wide Inv-loop μ-loop
+slice-read-wide c = omega arith
+
+wide-requires : tie.Need-wide-requires Inv-loop μ-loop
+wide-requires c κs = search needs
 
 lies-between-requires : tie.Need-lies-between-requires Inv-loop μ-loop
 lies-between-requires c κs = search needs
@@ -54,8 +58,8 @@ loop-less c = omega arith
 loop-again : tie.Need-loop-again Inv-loop μ-loop
 loop-again c =
     let after-test = c .before in
-    let passed = after-test .before .before .before .loop .inv .1 in
-    let test = sym (after-test .lies-between .ensures) in (
+    let passed = after-test .before .before .before .before .loop .inv .1 in
+    let test = ap (liesBetween _ _) (sym (after-test .before .wide .ensures)) ∙ sym (after-test .lies-between .ensures) in (
       omega arith,
       ⊎-elim
           (λ match. rw (match .1, match .2) (turn-match passed (omega arith) (test ∙ match .0 .taken)))
@@ -77,8 +81,9 @@ filter-vec-in-place-spec =
     μ-loop
     values-with-id-requires
     loop-holds
-    mul-lies-between
-    slice-read-lies-between
+    mul-wide
+    slice-read-wide
+    wide-requires
     lies-between-requires
     cast-output
     add-output

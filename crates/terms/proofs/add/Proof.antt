@@ -4,7 +4,8 @@ use mathlib.Core.Bool.{false}
 use lib.ListN.{length}
 use borrow.Author.Needs.{needs}
 use Rattle.blocked_bitpacker.specs.Store.{damagedStore}
-use Rattle.terms.proofs.Laws.{same-changed, counted, damaged-refused, past-limit-refused, no-entry-refused, entry-there}
+use Rattle.blocked_bitpacker.proofs.Counting.{counted}
+use Rattle.terms.proofs.Laws.{same-changed, damaged-refused, past-limit-refused, no-entry-refused, entry-there}
 use Rattle.terms.proofs.add.Statement.{statement}
 use Rattle.terms.proofs.add.Tie as tie
 
@@ -12,7 +13,7 @@ use Rattle.terms.proofs.add.Tie as tie
 not-damaged : (c : tie.After-enum-told)
     → let start = c .before .before .before .before .before .before .before in
     damagedStore (start .args .store) (length (start .args .bytes .now)) (length (start .args .entries .now)) ≡ false
-not-damaged c = counted _ _ _ _ (sym (c .before .before .count .ensures) ∙ c .enum-told .given .1)
+not-damaged c = counted _ _ _ _ (sym (c .before .before .count .ensures) ∙ c .enum-told .given .1) .0
 
 count-requires : tie.Need-count-requires
 count-requires c κs = search needs

@@ -31,8 +31,17 @@ enum-told c = search needs
 returns : tie.Need-returns Inv-loop μ-loop
 returns c = search needs
 
-slice-aggregate-data : tie.Need-slice-aggregate-data Inv-loop μ-loop
-slice-aggregate-data c = search needs
+bytes-lent-requires : tie.Need-bytes-lent-requires Inv-loop μ-loop
+bytes-lent-requires c κs = search needs
+
+sub-data : tie.Need-sub-data Inv-loop μ-loop
+sub-data c = search needs
+
+part-data-start : tie.Need-part-data-start Inv-loop μ-loop
+part-data-start c = search needs
+
+part-data-end : tie.Need-part-data-end Inv-loop μ-loop
+part-data-end c = search needs
 
 loop-holds : tie.Need-loop-holds Inv-loop μ-loop
 loop-holds c = search needs
@@ -68,7 +77,10 @@ work-spec =
     enum-known-unpacker
     enum-told
     returns
-    slice-aggregate-data
+    bytes-lent-requires
+    sub-data
+    part-data-start
+    part-data-end
     loop-holds
     ask-requires
     wrapping-add-u64-requires

@@ -25,8 +25,17 @@ slice-aggregate-fill-2 c = search needs
 fill-requires : tie.Need-fill-requires Inv-loop μ-loop
 fill-requires c κs = search needs
 
-slice-aggregate-data : tie.Need-slice-aggregate-data Inv-loop μ-loop
-slice-aggregate-data c = search needs
+bytes-lent-requires : tie.Need-bytes-lent-requires Inv-loop μ-loop
+bytes-lent-requires c κs = search needs
+
+sub-data : tie.Need-sub-data Inv-loop μ-loop
+sub-data c = search needs
+
+part-data-start : tie.Need-part-data-start Inv-loop μ-loop
+part-data-start c = search needs
+
+part-data-end : tie.Need-part-data-end Inv-loop μ-loop
+part-data-end c = search needs
 
 slice-aggregate-words : tie.Need-slice-aggregate-words Inv-loop μ-loop
 slice-aggregate-words c = search needs
@@ -63,7 +72,10 @@ work-spec =
     slice-aggregate-fill
     slice-aggregate-fill-2
     fill-requires
-    slice-aggregate-data
+    bytes-lent-requires
+    sub-data
+    part-data-start
+    part-data-end
     slice-aggregate-words
     loop-holds
     ask-requires
