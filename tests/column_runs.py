@@ -40,12 +40,18 @@ def shell(line, env=None, cwd=TOP):
     return done.stdout.decode(), done.stderr.decode(), done.returncode
 
 
+def as_at_a_terminal():
+    """A shell cannot act on a signal that its caller has it ignore, as nohup does, and a shell that starts something behind it."""
+    for number in (signal.SIGHUP, signal.SIGINT, signal.SIGQUIT, signal.SIGTERM, signal.SIGUSR1):
+        signal.signal(number, signal.SIG_DFL)
+
+
 def start(words, column=COLUMN, env=None, stdin=subprocess.DEVNULL):
     """A call that goes on, in a group of processes of its own."""
     global runs
     runs += 1
     return subprocess.Popen([str(column), *words], stdin=stdin, stdout=subprocess.PIPE, stderr=subprocess.PIPE, cwd=TOP,
-                            env=environment(env), start_new_session=True)
+                            env=environment(env), start_new_session=True, preexec_fn=as_at_a_terminal)
 
 
 def expect(name, got, wanted):
