@@ -5,11 +5,10 @@ use crate::bits::bits_at;
 use filter_vec::filter_vec_in_place;
 use filter_vec::lies_between;
 ghost use mathlib.Core.Path.{_≡_};
-ghost use mathlib.Core.Bool.{true};
 ghost use Prim.Native.Nat.{_+_, _-_, _*_, _%_, _^_, _≤_, _<_, min};
 ghost use lib.ListN.{length};
 ghost use Rattle.bit_rule.specs.Place.{valuesFrom};
-ghost use Rattle.bit_rule.specs.Search.{matchingIds, atStart, pastedAt};
+ghost use Rattle.bit_rule.specs.Search.{matchingIds, pastedAt};
 ghost use Rattle.bitunpacker.specs.Parts.{InData, Kept};
 ghost use Rattle.bitunpacker.specs.Unpacker.{idsOf};
 

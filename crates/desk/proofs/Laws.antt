@@ -6,19 +6,18 @@ use mathlib.Core.Bool.{Bool, true, false, _&&_, cond}
 use mathlib.Core.List.{List, [], _∷_}
 use mathlib.Core.Logic.{_⊎_, inl, inr, ⊎-elim}
 use native.Mathlib.Numerals.{add-one}
-use Prim.Native.Nat.{ℕ, zero, suc, _+_, _*_, _-_, _^_, _≤_, _<_}
+use Prim.Native.Nat.{ℕ, zero, suc, _+_, _-_, _^_, _≤_, _<_}
 use native.Mathlib.Omega.{arith}
-use lib.Dec.{leb, ltb, eqb}
+use lib.Dec.{eqb}
 use lib.ListN.{length, getD, drop}
 use lib.Seq.{drop-cons, drop-nil}
 use borrow.Author.Tests.{le-leb, lt-leb, lt-ltb, eq-eqb, ne-eqb}
 use Rattle.blocked_bitpacker.specs.declared.BlockedBitpacker.{BlockedBitpacker}
 use Rattle.blocked_bitpacker.specs.Store.{damagedStore, countOf}
 use Rattle.refusal.specs.declared.Refusal.{Refusal}
-use Rattle.refusal.specs.declared.Refusal.the-variants.{Damaged}
 use Rattle.bitunpacker.specs.declared.Found.the-variants.{Refused as NotFound}
 use Rattle.bitunpacker.specs.Unpacker.{search}
-use Rattle.blocked_bitpacker.specs.declared.Counted.the-variants.{Count, Refused as NotCounted}
+use Rattle.blocked_bitpacker.specs.declared.Counted.the-variants.{Refused as NotCounted}
 use Rattle.blocked_bitpacker.specs.Calls.{countedOf, searchOf}
 use Rattle.blocked_bitpacker.proofs.Judged.{judged}
 use Rattle.blocked_bitpacker.proofs.Values.{count-small}

@@ -70,6 +70,7 @@ fn narrow(step: &[u64], places: &mut [u32]) {
 // Answered by 0, by how many ids there are, and by every place of the slice.
 pub fn filter(step: &[u64]) {
     if step.len() < 3 {
+        say_one(0xbad);
         return;
     }
     let mut room = areas::positions();

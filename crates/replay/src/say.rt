@@ -1,5 +1,5 @@
 // An answer on standard output: numbers in lowercase hexadecimal, each after one space, and a line feed.
-ghost use Prim.Native.Nat.{_+_, _≤_};
+ghost use Prim.Native.Nat.{_≤_};
 use crate::line::at_most;
 use libc::STDOUT_FILENO;
 

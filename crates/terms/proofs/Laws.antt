@@ -10,9 +10,9 @@ use lib.ListN.{length, getD, drop, drop-of-length-le}
 use lib.Seq.{drop-cons}
 use borrow.Author.Tests.{lt-ltb, le-ltb, eq-eqb, ne-eqb}
 use Rattle.refusal.specs.declared.Refusal.{Refusal}
-use Rattle.refusal.specs.declared.Refusal.the-variants.{EntriesFull, Damaged}
+use Rattle.refusal.specs.declared.Refusal.the-variants.{EntriesFull}
 use Rattle.blocked_bitpacker.specs.declared.BlockedBitpacker.{BlockedBitpacker}
-use Rattle.blocked_bitpacker.specs.declared.Counted.the-variants.{Count, Refused as NotCounted}
+use Rattle.blocked_bitpacker.specs.declared.Counted.the-variants.{Refused as NotCounted}
 use Rattle.blocked_bitpacker.specs.declared.Stored.{Stored}
 use Rattle.blocked_bitpacker.specs.Store.{blockLimit, damagedStore}
 use Rattle.blocked_bitpacker.specs.Calls.{changed, refusedCall, addOf, countedOf}
