@@ -2,6 +2,8 @@
 // number of an arm below. A column or a store has COUNT values, of which every SPACING-th is 1 and the
 // others are 0; a column has WIDTH bits for each. The work is done TIMES times, so that the difference
 // of two TIMES is the work alone.
+#![tactic(auto)]
+
 mod areas;
 mod column;
 mod number;

@@ -1,19 +1,21 @@
 // Packs values of any widths into a stream of bits: `BitPacker` of the Rust's src/bitpacker.rs. The
 // output is lent at each call, and a call that cannot be met is refused and changes nothing.
+#![tactic(auto)]
+
 ghost use Rattle.std.specs.Prelude.{◌≡◌, ◌^◌, ◌≤◌, leb, length};
 ghost use Rattle.bitpacker.specs.Packer.{outcome, fresh, emit, damaged_packer, write_of, flush_of};
 
 use refusal::Refusal;
 
 // The bits that wait until 64 are complete, lowest first, and how many they are.
-#[derive(Drop)]
+#[derive(Clone, Copy)]
 pub struct BitPacker {
     pub mini_buffer: u64,
     pub mini_buffer_written: usize,
 }
 
 // The packer as it goes on and how many bytes were emitted, or why not.
-#[derive(Drop)]
+#[derive(Clone, Copy)]
 pub enum Written {
     Emitted(BitPacker, usize),
     Refused(Refusal),

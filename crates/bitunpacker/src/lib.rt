@@ -1,6 +1,8 @@
 // Reads and searches a column of one width: `BitUnpacker` of the Rust's src/bitpacker.rs. The data,
 // the output and the positions are lent at each call, and a call that cannot be met is refused and
 // changes nothing.
+#![tactic(auto)]
+
 mod bits;
 mod search;
 
@@ -14,35 +16,35 @@ use refusal::Refusal;
 use search::find;
 
 // The width of every value of a column, and the mask that cuts a value to it.
-#[derive(Drop)]
+#[derive(Clone, Copy)]
 pub struct BitUnpacker {
     pub num_bits: usize,
     pub mask: u64,
 }
 
 // A new unpacker, or why there is none.
-#[derive(Drop)]
+#[derive(Clone, Copy)]
 pub enum Made {
     Unpacker(BitUnpacker),
     Refused(Refusal),
 }
 
 // One value, or why it was not read.
-#[derive(Drop)]
+#[derive(Clone, Copy)]
 pub enum Got {
     Value(u64),
     Refused(Refusal),
 }
 
 // The output was filled, or why not.
-#[derive(Drop)]
+#[derive(Clone, Copy)]
 pub enum Filled {
     Done,
     Refused(Refusal),
 }
 
 // How many ids were found, or why none were looked for.
-#[derive(Drop)]
+#[derive(Clone, Copy)]
 pub enum Found {
     Ids(usize),
     Refused(Refusal),

@@ -13,7 +13,7 @@ use Rattle.bitpacker.specs.declared.BitPacker.{BitPacker}
 use Rattle.bitpacker.specs.declared.Written.{Written}
 use Rattle.bitpacker.specs.declared.Written.TheVariants.{Emitted, Refused}
 use Rattle.bitpacker.specs.Packer.{outcome, fresh, write_of, flush_of}
-use Rattle.bitpacker.proofs.Run.{emitted_of, held_of, soFar, packed, ◌then◌, held_nil, write_more, part_then, flush_all, part_packed}
+use Rattle.bitpacker.proofs.Run.{emitted_of, held_of, so_far, packed, ◌then◌, held_nil, write_more, part_then, flush_all, part_packed}
 use Rattle.block.specs.Block.{differences, bytes_of_block}
 
 -- the pieces that a block's values are packed as
@@ -50,13 +50,13 @@ pub record Packing (base w : ℕ) (vs out₀ : List ℕ) (i : ℕ) (packer : Bit
   pub within : i ≤ length vs
   pub holds : packer ≡ held_of (pieces base w (take i vs))
   pub place : at ≡ emitted_of (pieces base w (take i vs))
-  pub so_far_lem : out ≡ soFar (pieces base w (take i vs)) out₀
+  pub output_so_far : out ≡ so_far (pieces base w (take i vs)) out₀
   pub same : length out ≡ length out₀
 
 module _ (base w : ℕ) (vs out₀ : List ℕ) (fit : Fit (pieces base w vs)) (narrow : w ≤ 64) (room : bytes_of_block (length vs) w ≤ length out₀) where
   pub packing_starts : {packer : BitPacker} → packer ≡ fresh → Packing base w vs out₀ 0 packer 0 out₀
   unfolding total_bits bytes_of
-  packing_starts new = record { within = zero-le; holds = new ∙ sym held_nil; place = refl; so_far_lem = refl; same = refl }
+  packing_starts new = record { within = zero-le; holds = new ∙ sym held_nil; place = refl; output_so_far = refl; same = refl }
 
   module _ {i : ℕ} {packer : BitPacker} {at : ℕ} {out : List ℕ} (here : Packing base w vs out₀ i packer at out) where
     abbrev ps : List Piece
@@ -66,11 +66,11 @@ module _ (base w : ℕ) (vs out₀ : List ℕ) (fit : Fit (pieces base w vs)) (n
     place_within = omega (arith, here.place, here.same, emitted_room base w vs i (length out₀) here.within room)
 
     -- the call's packer and part, as the laws of a run have them
-    part : rest_from at out ≡ drop (emitted_of ps) (soFar ps out₀)
-    part = rest_from_is at out ∙ ap₂ drop here.place here.so_far_lem
+    part : rest_from at out ≡ drop (emitted_of ps) (so_far ps out₀)
+    part = rest_from_is at out ∙ ap₂ drop here.place here.output_so_far
 
-    front : (ys : List ℕ) → put_mid at (length out - at) out ys ≡ take (emitted_of ps) (soFar ps out₀) ++ ys
-    front ys = put_rest at out ys place_within ∙ ap₂ (λ a l. take a l ++ ys) here.place here.so_far_lem
+    front : (ys : List ℕ) → put_mid at (length out - at) out ys ≡ take (emitted_of ps) (so_far ps out₀) ++ ys
+    front ys = put_rest at out ys place_within ∙ ap₂ (λ a l. take a l ++ ys) here.place here.output_so_far
 
     module _ (more : i < length vs) where
       abbrev x : Piece
@@ -84,7 +84,7 @@ module _ (base w : ℕ) (vs out₀ : List ℕ) (fit : Fit (pieces base w vs)) (n
 
       -- what the write answers and leaves
       pub write_is : (r : Written) (ys : List ℕ) → outcome r ys ≡ write_of packer (get_or vs i 0 - base) w (rest_from at out)
-          → outcome r ys ≡ outcome (Emitted (held_of (ps then x)) (emitted_of (ps then x) - emitted_of ps)) (drop (emitted_of ps) (soFar (ps then x) out₀))
+          → outcome r ys ≡ outcome (Emitted (held_of (ps then x)) (emitted_of (ps then x) - emitted_of ps)) (drop (emitted_of ps) (so_far (ps then x) out₀))
       write_is r ys ensured =
           ensured
           ∙ ap₂ (λ p l. write_of p (get_or vs i 0 - base) w l) here.holds part
@@ -103,11 +103,11 @@ module _ (base w : ℕ) (vs out₀ : List ℕ) (fit : Fit (pieces base w vs)) (n
             within = omega arith;
             holds = held ∙ ap held_of (sym next_pieces);
             place = omega (arith, here.place, count, grows) ∙ ap emitted_of (sym next_pieces);
-            so_far_lem =
+            output_so_far =
                 front ys
-                ∙ ap (λ l. take (emitted_of ps) (soFar ps out₀) ++ l) (ap (λ o. o.output) is)
+                ∙ ap (λ l. take (emitted_of ps) (so_far ps out₀) ++ l) (ap (λ o. o.output) is)
                 ∙ part_then ps x out₀
-                ∙ ap (λ l. soFar l out₀) (sym next_pieces);
+                ∙ ap (λ l. so_far l out₀) (sym next_pieces);
             same = same_len_mid at (length out - at) out ys kept ∙ here.same;
           }
 
@@ -129,6 +129,6 @@ module _ (base w : ℕ) (vs out₀ : List ℕ) (fit : Fit (pieces base w vs)) (n
         (sym (ap (λ l. total_bits (pieces base w l)) whole ∙ ap (λ l. total_bits (pieces base w l)) (sym (take-length vs)) ∙ bits_take base w vs (length vs) (le_refl (length vs)))) room in
         let is = ensured ∙ ap₂ flush_of here.holds part ∙ flush_all ps out₀ (fit_take base w vs i fit) enough in
         front ys
-        ∙ ap (λ l. take (emitted_of ps) (soFar ps out₀) ++ l) (ap (λ o. o.output) is)
+        ∙ ap (λ l. take (emitted_of ps) (so_far ps out₀) ++ l) (ap (λ o. o.output) is)
         ∙ part_packed ps out₀ (fit_take base w vs i fit)
         ∙ ap (λ l. packed (pieces base w l) out₀) whole

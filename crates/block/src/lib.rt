@@ -1,5 +1,7 @@
 // One block of values: its packed differences and eight zeros after them, and its values read back. The
 // middle of `flush` and of `get` in the Rust's src/blocked_bitpacker.rs.
+#![tactic(auto)]
+
 ghost use Rattle.std.specs.Prelude.{◌≡◌, ℕ, ◌+◌, ◌-◌, ◌*◌, ◌^◌, ◌<◌, ◌≤◌, ◌++◌, map, length, slice_index};
 ghost use Rattle.bit_rule.specs.Search.{at_start};
 ghost use Rattle.bit_rule.specs.Stream.{Fit, of_width};
@@ -15,7 +17,7 @@ use refusal::Refusal;
 use std::num::wrapping_add_u64;
 
 // Base, width and size of a block that was sealed, or why none was.
-#[derive(Drop)]
+#[derive(Clone, Copy)]
 pub enum Sealing {
     Sealed(u64, usize, usize),
     Refused(Refusal),

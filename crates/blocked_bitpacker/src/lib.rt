@@ -1,6 +1,8 @@
 // A column that grows: values wait until 128 are there and are then sealed as a block. The store is a
 // value; its two areas, bytes and entry words, are lent at each call. `BlockedBitpacker` of the Rust's
 // src/blocked_bitpacker.rs.
+#![tactic(auto)]
+
 mod reading;
 
 ghost use Rattle.std.specs.Prelude.{◌≡◌, false, ◌≤◌, length};
@@ -15,7 +17,7 @@ use refusal::Refusal;
 
 // The waiting values beside how many bytes and blocks are used, how many values wait, and, once a
 // flush has closed the store, how many values its last block has.
-#[derive(Drop)]
+#[derive(Clone, Copy)]
 pub struct BlockedBitpacker {
     pub buffer: [u64; 128],
     pub used: usize,
@@ -25,21 +27,21 @@ pub struct BlockedBitpacker {
 }
 
 // The call was done, or why not.
-#[derive(Drop)]
+#[derive(Clone, Copy)]
 pub enum Done {
     Accepted,
     Refused(Refusal),
 }
 
 // What a call that changes the store answers, with the store as it then is.
-#[derive(Drop)]
+#[derive(Clone, Copy)]
 pub struct Stored {
     pub done: Done,
     pub store: BlockedBitpacker,
 }
 
 // How many values were accepted, or why it cannot be said.
-#[derive(Drop)]
+#[derive(Clone, Copy)]
 pub enum Counted {
     Count(usize),
     Refused(Refusal),

@@ -13,7 +13,7 @@ use filter_vec::lies_between;
 use refusal::Refusal;
 
 // What the two words of an entry say.
-#[derive(Drop)]
+#[derive(Clone, Copy)]
 pub(crate) struct Entry {
     pub(crate) offset: usize,
     pub(crate) width: usize,

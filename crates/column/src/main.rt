@@ -1,4 +1,6 @@
 // The desk's program: its words in, an answer on standard output or a refusal on standard error, and last its status.
+#![tactic(auto)]
+
 use desk::Request;
 use libc::{STDERR_FILENO, STDOUT_FILENO};
 

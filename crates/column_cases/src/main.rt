@@ -1,4 +1,6 @@
 // Runs the calls of the file `cases`, one a line, as the program would, with standard output for both of its ends.
+#![tactic(auto)]
+
 mod words;
 
 use libc::STDOUT_FILENO;

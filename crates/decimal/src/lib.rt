@@ -1,4 +1,6 @@
 // A number as decimal text: what a line says, and where it goes wrong.
+#![tactic(auto)]
+
 mod line;
 
 ghost use Rattle.std.specs.Prelude.{◌≡◌, length};
@@ -7,7 +9,7 @@ ghost use Rattle.decimal.specs.Digits.{is_digit, first_other, append_of, number_
 pub use line::Line;
 
 // The number, or the first thing that is wrong: of a byte that is no digit, its place and which it is.
-#[derive(Drop)]
+#[derive(Clone, Copy)]
 pub enum Numeral {
     Number(u64),
     Empty,

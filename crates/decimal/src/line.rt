@@ -8,7 +8,7 @@ use std::num::wrapping_add_usize;
 // How many digits the line starts with, modulo 2^64, and the number that they stand for, or 0 where it
 // is too large; whether a carriage return follows them, and whether anything else does; and the first byte
 // that may not stand where it does, or 0 where there is none.
-#[derive(Drop)]
+#[derive(Clone, Copy)]
 pub struct Line {
     pub digits: usize,
     pub value: u64,

@@ -1,4 +1,6 @@
 // What the desk's program decides: what its words ask for, which ids it lists, and what it shows of a block.
+#![tactic(auto)]
+
 mod words;
 
 ghost use Rattle.std.specs.Prelude.{◌≡◌};

@@ -5,7 +5,7 @@ ghost use Rattle.desk.specs.Words.{same_word, verb_of, is_number, number_in, is_
 use decimal::Numeral;
 
 // The words by their names on the help page: a verb; the file; and numbers.
-#[derive(Drop)]
+#[derive(Clone, Copy)]
 pub enum Word {
     Verb,
     Terms,
@@ -17,7 +17,7 @@ pub enum Word {
 }
 
 // What is wrong with the words, if anything. A word that is too long, or one too many, is told by its number, from 1 on.
-#[derive(Drop)]
+#[derive(Clone, Copy)]
 pub enum Fault {
     Fine,
     TooLong(usize),
@@ -30,7 +30,7 @@ pub enum Fault {
 }
 
 // A request, or why the words are none.
-#[derive(Drop)]
+#[derive(Clone, Copy)]
 pub enum Request {
     Help,
     Version,
@@ -41,7 +41,7 @@ pub enum Request {
     Wrong(Fault),
 }
 
-#[derive(Drop)]
+#[derive(Clone, Copy)]
 pub enum Verb {
     Help,
     Version,

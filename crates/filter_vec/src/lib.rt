@@ -1,6 +1,8 @@
 // Keeps the ids of the values in an interval: the scalar `filter_vec_in_place` of the Rust's
 // src/filter_vec/scalar.rs. The values are lent as a slice, which cannot be cut short, so the answer
 // says how many ids there are.
+#![tactic(auto)]
+
 ghost use Rattle.std.specs.Prelude.{◌≡◌, ◌-◌, ◌^◌, min};
 ghost use Rattle.bit_rule.specs.Search.{lies_between};
 ghost use Rattle.filter_vec.specs.Filter.{filtered, filter_of};

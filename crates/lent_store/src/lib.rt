@@ -1,5 +1,7 @@
 // A store that is lent: "The caller keeps one store and each add changes it in place." Each function calls
 // the one by value and writes the store that it answers back, a refused call's too, which is as it came.
+#![tactic(auto)]
+
 ghost use Rattle.std.specs.Prelude.{◌≡◌};
 ghost use Rattle.blocked_bitpacker.specs.Calls.{changed, answered, add_of, flush_of};
 

@@ -1,4 +1,6 @@
 // What the desk's program says when it has no answer: the usage and the refusals, each in one place.
+#![tactic(auto)]
+
 mod bytes;
 mod refuse;
 mod usage;

@@ -1,4 +1,6 @@
 // The width of an amplitude, and the lowest and highest of a list: src/lib.rs of the Rust.
+#![tactic(auto)]
+
 ghost use Rattle.std.specs.Prelude.{◌≡◌, cond, false, [], ◌≤◌, ◌<◌, ltb, length, take, get_or};
 ghost use Rattle.std.specs.Float.{nan};
 ghost use Rattle.std.specs.Float.Ieee.{lt, is_nan};
@@ -6,13 +8,13 @@ ghost use Rattle.bit_rule.specs.Width.{width_of};
 ghost use Rattle.num_bits.specs.MinMax.{minmax_u64, minmax_f64, numbers};
 
 // The lowest and the highest of a list, or nothing where the list has none.
-#[derive(Drop)]
+#[derive(Clone, Copy)]
 pub enum MinMaxU64 {
     Nothing,
     Of(u64, u64),
 }
 
-#[derive(Drop)]
+#[derive(Clone, Copy)]
 pub enum MinMaxF64 {
     Nothing,
     Of(f64, f64),

@@ -1,9 +1,11 @@
 // Why a call was refused, and the number that document 01 gives each reason. Numbers 9 to 12 are
 // kept for document 02.
+#![tactic(auto)]
+
 ghost use Rattle.std.specs.Prelude.{◌≡◌};
 ghost use Rattle.refusal.specs.Number.{number_of};
 
-#[derive(Drop)]
+#[derive(Clone, Copy)]
 pub enum Refusal {
     BadWidth,
     TooWide,

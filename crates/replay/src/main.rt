@@ -1,5 +1,7 @@
 // Has the port take steps, and prints its answers: a line of input is a step, and a line of output its answer.
 // The steps come from the file that the first argument names, or else from standard input.
+#![tactic(auto)]
+
 mod areas;
 mod line;
 mod packing;

@@ -7,7 +7,7 @@ use blocked_bitpacker::BlockedBitpacker;
 
 // The place of the line at which a number is being read; how many bytes and entry words are lent; a packer's
 // fields, and how many bytes it has emitted; an unpacker's fields; a store.
-#[derive(Drop)]
+#[derive(Clone, Copy)]
 pub struct State {
     pub place: usize,
     pub byte_room: u64,

@@ -25,7 +25,7 @@ pub(crate) fn position_area() -> [u32; 131_072]
 }
 
 // What a file led to, or that it could not be read to its end, and the system's number for why.
-#[derive(Drop)]
+#[derive(Clone, Copy)]
 pub(crate) struct Read {
     pub(crate) loaded: Loaded,
     pub(crate) failed: bool,

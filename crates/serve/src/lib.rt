@@ -1,5 +1,7 @@
 // Answers what the desk's words ask for: reads the file, loads it and writes the answer, or says why not.
 // It decides nothing: what the words mean is `desk`'s, what a text leads to `terms`', what is listed the store's.
+#![tactic(auto)]
+
 mod file;
 mod page;
 mod rows;

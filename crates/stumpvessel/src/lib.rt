@@ -1,5 +1,7 @@
 // What the desk's host program calls from C: the width of an amplitude, packing a list, one read. Each
 // answers 0, or the number of a refusal, and then has written nothing.
+#![tactic(auto)]
+
 ghost use Rattle.std.specs.Prelude.{◌≡◌, ◌+◌, ◌*◌, ◌/◌, ◌%◌, ◌^◌, ◌≤◌, ◌<◌, false, length};
 ghost use Rattle.bit_rule.specs.Bytes.{bytes_for};
 ghost use Rattle.bit_rule.specs.Stream.{of_width};

@@ -1,5 +1,7 @@
 // A text of one decimal number a line, taken in pieces of any size: each line's number is added to a
 // store as soon as the line ends.
+#![tactic(auto)]
+
 ghost use Rattle.std.specs.Prelude.{◌≡◌};
 ghost use Rattle.blocked_bitpacker.specs.Calls.{changed, refused_with};
 ghost use Rattle.terms.specs.Loading.{is_trouble, trouble_of, nothing_read, add_line_of, stopped_by, added_by, begun, begin_of, taken, said_of, bytes_of, settled_of, loaded_of, end_of};
@@ -11,7 +13,7 @@ use std::num::wrapping_add_usize;
 
 // What stops a loading: a line that is no number, or a number that the store refuses; at the end of the text, a last
 // line without its line end, which may have been cut, or that there is no line at all.
-#[derive(Drop)]
+#[derive(Clone, Copy)]
 pub enum Trouble {
     Nothing,
     Empty,
@@ -24,7 +26,7 @@ pub enum Trouble {
 
 // The store so far, how many lines were added to it, modulo 2^64, what is known of the line that goes on,
 // and what stopped it.
-#[derive(Drop)]
+#[derive(Clone, Copy)]
 pub struct Loading {
     pub store: BlockedBitpacker,
     pub lines: usize,
@@ -33,7 +35,7 @@ pub struct Loading {
 }
 
 // What a whole text led to. The line that stopped it is the one after those that were added.
-#[derive(Drop)]
+#[derive(Clone, Copy)]
 pub struct Loaded {
     pub store: BlockedBitpacker,
     pub lines: usize,
