@@ -23,7 +23,7 @@ def fresh_clone(folder):
     for name in ('words', 'build-program'):
         shutil.copy(TOP / 'tests' / name, folder / 'tests' / name)
     shutil.copy(TOP / 'crates.txt', folder / 'crates.txt')
-    (folder / 'crates').mkdir()
+    (folder / 'crates/column').mkdir(parents=True)
     return folder / 'column'
 
 
@@ -143,7 +143,7 @@ def stand_in(folder, body):
     total = subprocess.run('find crates crates.txt -type f -print0 | LC_ALL=C sort -z | xargs -0 sha256sum | sha256sum', shell=True,
                            cwd=folder, stdout=subprocess.PIPE, check=True).stdout.decode()
     program_sum = subprocess.run('sha256sum <target/bin/column', shell=True, cwd=folder, stdout=subprocess.PIPE, check=True).stdout.decode()
-    (folder / 'target/column.built').write_text(total + program_sum + 'a toolchain that is not here\n\n')
+    (folder / 'target/column.built').write_text(total + program_sum + 'a toolchain that is not here\n')
     return column
 
 
@@ -238,9 +238,10 @@ def toolchain(folder, body):
     return {'PATH': f'{folder}:{PLAIN_PATH}'}
 
 
-PROGRAM = "mkdir -p target/bin; printf '#!/bin/bash\\necho row; printf 0 >&29\\n' >target/bin/column; chmod +x target/bin/column\n"
-PROVED = ('echo "rt: bit_rule proved (2 s)"; echo "other"; echo "rt: column proved (unchanged since it was last proved)"; '
-          'echo "rt: ok, 2 crates proved"\n')
+PROGRAM = "mkdir -p out; printf '#!/bin/bash\\necho row; printf 0 >&29\\n' >out/column; chmod +x out/column\n"
+PROVED = ('echo "crate bit_rule: modules loaded=0 checked=2"; echo "logic=proved functions=0"; echo "other"; '
+          'echo "crate column: modules loaded=0 checked=9" >&2; echo "logic=proved functions=6" >&2; '
+          'echo "rt: running out/column; to give it other input, run that file yourself" >&2\n')
 
 
 def building(folder):
@@ -250,8 +251,8 @@ def building(folder):
     (folder / 'builds/crates.txt').write_text('# two\nbit_rule:\ncolumn: bit_rule io\nother: column\n')
     env = toolchain(folder / 'rt-proves', PROVED + PROGRAM)
     expect('a first call builds', run(words, command=[str(column)], env=env),
-           ('row\n', count.format(2) + 'column: 1 of 2 proved: bit_rule (2 s)\n'
-            'column: 2 of 2 proved: column (unchanged since it was last proved)\n', 0))
+           ('row\n', count.format(2) + 'column: 1 of 2 proved: bit_rule\n'
+            'column: 2 of 2 proved: column\n', 0))
     expect('a second call does not', run(words, command=[str(column)], env=env), ('row\n', '', 0))
     expect('nor one without the toolchain', run(words, command=[str(column)], env={'PATH': PLAIN_PATH}), ('row\n', '', 0))
     program = folder / 'builds/target/bin/column'
@@ -265,13 +266,13 @@ def building(folder):
     expect('a changed source is built, TMPDIR missing', (out, err.count('proved: '), status), ('row\n', 2, 0))
 
     column = fresh_clone(folder / 'fails')
-    env = toolchain(folder / 'rt-fails', 'echo "rt: bit_rule proved (2 s)"; echo "rt: terms NOT PROVED"; exit 1\n')
+    env = toolchain(folder / 'rt-fails', 'echo "crate bit_rule: modules loaded=0 checked=2"; echo "logic=proved functions=0"; echo "fn terms::add: not proved"; exit 1\n')
     out, err, status = run(words, command=[str(column)], env=env)
     expect('what is not proved is not run', (out, err.splitlines()[-2:], status),
-           ('', ['rt: terms NOT PROVED', 'column: the program could not be built: target/column.log says more'], 3))
+           ('', ['fn terms::add: not proved', 'column: the program could not be built: target/column.log says more'], 3))
 
     # A program of older sources is there: what the environment has for the shell does not make it this one's.
-    (folder / 'fails/target/bin').mkdir()
+    (folder / 'fails/target/bin').mkdir(exist_ok=True)
     (folder / 'fails/target/bin/column').write_text('#!/bin/bash\necho old; printf 0 >&29\n')
     (folder / 'fails/target/bin/column').chmod(0o755)
     (folder / 'leave').write_text('exit 0\n')
