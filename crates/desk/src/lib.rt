@@ -16,6 +16,7 @@ pub use words::{Fault, Request, Word, asked, same_word};
 
 // The ids from `from` to before `to` whose value lies in lo..hi, where both may be any numbers: the store's
 // own search takes ids of 32 bits, and no store counts so far.
+#[tactic(auto, using(crate::proofs::Laws::empty_range, crate::proofs::Laws::past_every_count))]
 pub fn list(
     store: BlockedBitpacker,
     lo: u64,
@@ -38,6 +39,7 @@ pub fn list(
 }
 
 // The same over all ids.
+#[tactic(auto, using(crate::proofs::Laws::not_counted, blocked_bitpacker::proofs::Counting::counted))]
 pub fn list_all(
     store: BlockedBitpacker,
     lo: u64,
@@ -55,6 +57,7 @@ pub fn list_all(
 }
 
 // How many bits each value of a block takes, by its entry.
+#[tactic(auto, unfolding(crate::specs::Blocks::block_width_of, block::specs::Block::entry_width))]
 pub fn block_width(block: usize, entries: &[u64]) -> Got
     ensures { result ≡ block_width_of block entries.now }
 {
@@ -65,6 +68,7 @@ pub fn block_width(block: usize, entries: &[u64]) -> Got
 }
 
 // The base of a block, by its entry: the lowest of its values.
+#[tactic(auto, unfolding(crate::specs::Blocks::block_base_of, block::specs::Block::entry_base))]
 pub fn block_base(block: usize, entries: &[u64]) -> Got
     ensures { result ≡ block_base_of block entries.now }
 {

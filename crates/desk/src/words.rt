@@ -52,6 +52,7 @@ pub enum Verb {
 }
 
 // Whether two words are the same, byte by byte.
+#[tactic(auto, using(crate::proofs::Laws::lengths_differ, crate::proofs::Laws::letter_same, crate::proofs::Laws::letter_differs, crate::proofs::Laws::words_end))]
 pub fn same_word(a: &[u8], b: &[u8]) -> bool
     ensures { result ≡ same_word a.now b.now }
 {
@@ -68,6 +69,7 @@ pub fn same_word(a: &[u8], b: &[u8]) -> bool
     true
 }
 
+#[tactic(auto, unfolding(crate::specs::Words::verb_of))]
 fn verb_in(word: &[u8]) -> Verb
     ensures { result ≡ verb_of word.now }
 {
@@ -133,6 +135,7 @@ fn is_fault(fault: Fault) -> bool
 }
 
 // A verb that stands alone.
+#[tactic(auto, unfolding(crate::specs::Words::alone_fault))]
 fn alone_fault(count: usize) -> Fault
     ensures { result ≡ alone_fault count }
 {
@@ -142,6 +145,7 @@ fn alone_fault(count: usize) -> Fault
     Fault::Fine
 }
 
+#[tactic(auto, unfolding(crate::specs::Words::show_fault))]
 fn show_fault(count: usize) -> Fault
     ensures { result ≡ show_fault count }
 {
@@ -154,6 +158,7 @@ fn show_fault(count: usize) -> Fault
     Fault::Fine
 }
 
+#[tactic(auto, unfolding(crate::specs::Words::get_fault))]
 fn get_fault(count: usize, id: Numeral) -> Fault
     ensures { result ≡ get_fault count id }
 {
@@ -173,6 +178,7 @@ fn get_fault(count: usize, id: Numeral) -> Fault
 }
 
 // LO and HI are both included.
+#[tactic(auto, unfolding(crate::specs::Words::interval_fault))]
 fn interval_fault(lo: Numeral, hi: Numeral) -> Fault
     ensures { result ≡ interval_fault lo hi }
 {
@@ -189,6 +195,7 @@ fn interval_fault(lo: Numeral, hi: Numeral) -> Fault
 }
 
 // TO is not included.
+#[tactic(auto, unfolding(crate::specs::Words::range_fault))]
 fn range_fault(from: Numeral, to: Numeral) -> Fault
     ensures { result ≡ range_fault from to }
 {
@@ -204,6 +211,7 @@ fn range_fault(from: Numeral, to: Numeral) -> Fault
     Fault::Fine
 }
 
+#[tactic(auto, unfolding(crate::specs::Words::list_fault))]
 fn list_fault(count: usize, lo: Numeral, hi: Numeral, from: Numeral, to: Numeral) -> Fault
     ensures { result ≡ list_fault count lo hi from to }
 {
@@ -232,6 +240,7 @@ fn list_fault(count: usize, lo: Numeral, hi: Numeral, from: Numeral, to: Numeral
     Fault::Fine
 }
 
+#[tactic(auto, unfolding(crate::specs::Words::fault_of))]
 fn fault_in(
     count: usize,
     long: usize,
@@ -260,6 +269,7 @@ fn fault_in(
 }
 
 // What words that are not wrong ask for.
+#[tactic(auto, unfolding(crate::specs::Words::request_by))]
 fn request_by(
     count: usize,
     verb: Verb,
@@ -293,6 +303,7 @@ fn request_by(
 // What so many words ask for: the first, and those from the third on; a word that is missing is empty here. The second is
 // the file's name, and nothing is asked of it but that it is there. `long` is the number of the first word that was too
 // long to be read, or 0.
+#[tactic(auto, unfolding(crate::specs::Words::request_of))]
 pub fn asked(
     count: usize,
     long: usize,
