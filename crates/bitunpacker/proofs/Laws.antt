@@ -1,12 +1,12 @@
 -- What the unpacker's operations come to in numbers: eight bytes put together by shifts are the number they stand for, a mask is a
 -- remainder, and a column's bytes can be counted without its bits.
 use mathlib.Core.Path.{◌≡◌, refl, sym, ap, ap₂, ◌∙◌, subst}
-use mathlib.Core.Bool.{Bool, true, false, not}
+use mathlib.Core.Bool.{true, false}
 use mathlib.Core.List.{List, ◌++◌, append-nil}
 use Prim.Native.Nat.{ℕ, suc, ◌+◌, ◌-◌, ◌*◌, ◌/◌, ◌%◌, ◌^◌, ◌≤◌, ◌<◌, zero-le}
-use native.Mathlib.Nat.{mul_comm, mul_assoc, add-mul, mul-le-mul, le_trans, lt_of_lt_of_le, mod-eq_of_lt, add_comm, one-mul, add-zero, suc-mul, le_antisymm, mul-le-mul_right}
+use native.Mathlib.Nat.{mul_assoc, add-mul, mul-le-mul, lt_of_lt_of_le, mod-eq_of_lt, add_comm, one-mul, add-zero, suc-mul, le_antisymm, mul-le-mul_right}
 use native.Mathlib.Omega.{arith}
-use lib.Dec.{leb, eqb}
+use lib.Dec.{leb}
 use lib.Bits.{bit_or, bit_and, or_shifted_r, and_mask}
 use lib.Pow.{pow_mono, pow_pos, pow-lt, shl_exact}
 use lib.ListN.{length, get_or, take, drop, set, length-drop, length-set}
@@ -15,7 +15,6 @@ use borrow.Author.Tests.{eqb-true, not-false, le-leb, lt-leb}
 use Rattle.bit_rule.specs.Bytes.{AreBytes, number, bytes_for}
 use Rattle.bit_rule.specs.Place.{value_at, values_from}
 use Rattle.bit_rule.specs.Search.{at_start}
-use Rattle.bit_rule.specs.Width.{legal_width}
 use Rattle.bit_rule.proofs.Bytes.{pow_bytes, number_lt}
 use Rattle.bit_rule.proofs.Place.{bits_at_load, drop_are_bytes, legal_span, length-values_from, values_from_then}
 use Rattle.bit_rule.proofs.Search.{store_id}

@@ -1,5 +1,5 @@
 -- The search in batches: what the filter leaves of a batch are its matching ids, and the ids of one stretch after the other are those of both.
-use mathlib.Core.Path.{◌≡◌, refl, sym, ap, ap₂, ◌∙◌, subst}
+use mathlib.Core.Path.{◌≡◌, sym, ap, ap₂, ◌∙◌, subst}
 use mathlib.Core.List.{List, [], ◌++◌}
 use Prim.Native.Nat.{ℕ, ◌+◌, ◌-◌, ◌*◌, ◌/◌, ◌%◌, ◌^◌, ◌≤◌, ◌<◌, min}
 use native.Mathlib.Nat.{zero-add, add-zero, add-mul, sub_self, le_trans, lt_of_lt_of_le, mul-le-mul_right}
@@ -13,7 +13,7 @@ use Rattle.bit_rule.specs.Search.{matching_ids, at_start, pasted_at}
 use Rattle.bit_rule.proofs.Place.{length-values_from, values_from-add, values_from-lt, values_from-drop}
 use Rattle.bit_rule.proofs.Search.{matching_le, matching_append, none_above, hi_cut, paste_first, paste_none, paste_paste}
 use Rattle.bitunpacker.proofs.Laws.{eights}
-use Rattle.filter_vec.specs.Filter.{Filtered, filtered, filter_of}
+use Rattle.filter_vec.specs.Filter.{filtered, filter_of}
 use Rattle.bitunpacker.specs.declared.BitUnpacker.{BitUnpacker}
 use Rattle.bitunpacker.specs.declared.Found.TheVariants.{Ids}
 use Rattle.bitunpacker.specs.Parts.{InData, Kept}

@@ -5,7 +5,6 @@ use Rattle.std.specs.Prelude.{ℕ, ◌+◌, ◌-◌, ◌*◌, ◌^◌, ◌≡◌
 use Rattle.bit_rule.specs.Width.{legal_width}
 use Rattle.bit_rule.specs.Place.{value_at, lies_in, values_from}
 use Rattle.bit_rule.specs.Search.{matching_ids, at_start}
-use Rattle.refusal.specs.declared.Refusal.{Refusal}
 use Rattle.refusal.specs.declared.Refusal.TheVariants.{BadWidth, OutOfData, NoRoom, Damaged}
 use Rattle.refusal.specs.First.{check, first_that_holds}
 use Rattle.bitunpacker.specs.declared.BitUnpacker.{BitUnpacker}
