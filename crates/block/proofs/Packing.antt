@@ -1,5 +1,5 @@
 -- Packing a block value by value: where a run of writes stands after the first i values (`Packing`), and that one more value moves it on.
-use Rattle.std.proofs.Common.{◌≡◌, ℕ, suc, ◌+◌, ◌-◌, ◌*◌, ◌/◌, ◌^◌, ◌<◌, ◌≤◌, List, [], ◌∷◌, ◌++◌, map, length, get_or, take, drop, sym, refl, ap, ◌∙◌, subst, ap₂, zero-le, le_refl, mul-le-mul_right, add-one, arith, take-append-drop, length-take-le, take_all, take-suc}
+use Rattle.std.proofs.Common.{◌≡◌, ℕ, ◌+◌, ◌-◌, ◌*◌, ◌<◌, ◌≤◌, List, [], ◌∷◌, ◌++◌, length, get_or, take, drop, sym, refl, ap, ◌∙◌, subst, ap₂, zero-le, le_refl, mul-le-mul_right, add-one, arith, take-append-drop, length-take-le, take_all, take-suc}
 use lib.ListN.{length-map}
 use lib.Seq.{take-length}
 use borrow.Rule.Slice.PartMut.{put_mid, same_len_mid}

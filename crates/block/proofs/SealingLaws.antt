@@ -1,8 +1,7 @@
 -- Sealing a block: its differences fit the width of its extent, the size is that of its packed bytes, and the bytes with eight zeros after
 -- them stand at the start of the part.
-use Rattle.std.proofs.Common.{◌≡◌, ℕ, suc, ◌+◌, ◌-◌, ◌*◌, ◌^◌, ◌<◌, ◌≤◌, cond, ltb, leb, List, [], ◌∷◌, ◌++◌, map, length, get_or, take, drop, sym, refl, ap, ◌∙◌, subst, ap₂, append_assoc, zero-le, not-suc-le-zero, lt_of_le_of_lt, arith, length-append, length-drop, drop-drop, take_at, drop_at, le-ltb, lt-ltb, le-leb}
-use mathlib.Core.Option.{some}
-use lib.ListN.{length-map, length-replicate}
+use Rattle.std.proofs.Common.{◌≡◌, ℕ, suc, ◌+◌, ◌-◌, ◌*◌, ◌^◌, ◌<◌, ◌≤◌, cond, List, [], ◌∷◌, ◌++◌, length, get_or, drop, sym, refl, ap, ◌∙◌, subst, ap₂, append_assoc, zero-le, not-suc-le-zero, lt_of_le_of_lt, arith, length-append, length-drop, drop-drop, take_at, drop_at, le-ltb, lt-ltb, le-leb}
+use lib.ListN.{length-map}
 use borrow.Rule.Slice.PartMut.{put_mid}
 use Rattle.bit_rule.specs.Bytes.{bytes_for}
 use Rattle.bit_rule.specs.Stream.{Piece, total_bits, stream_bytes, Fit, of_width}
