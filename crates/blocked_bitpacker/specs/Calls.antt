@@ -1,7 +1,7 @@
 -- What each call on a store answers, and what the store and both areas are then. Each has document 01's list of checks in its order:
 -- "add: 8, 6, 5, 4. Flush of a store: 8, nothing waiting succeeds, 5, 4. Store get: 8 (store), 7, 8 (entry). Store range and search: 8
 -- (store), empty succeeds, 7, then for search 4, then 8 over every touched entry before anything is written."
-use Rattle.std.specs.Prelude.{ℕ, ◌+◌, ◌-◌, ◌*◌, ◌/◌, Bool, not, ◌||◌, ◌&&◌, cond, List, [], ◌∷◌, ◌++◌, leb, ltb, eqb, length, take, set}
+use Rattle.std.specs.Prelude.{ℕ, ◌+◌, ◌-◌, ◌*◌, ◌/◌, Bool, ◌||◌, ◌&&◌, cond, List, [], ◌∷◌, ◌++◌, leb, ltb, eqb, length, take, set}
 use Rattle.bit_rule.specs.Search.{matching_ids, at_start, pasted_at}
 use Rattle.refusal.specs.declared.Refusal.{Refusal}
 use Rattle.refusal.specs.declared.Refusal.TheVariants.{NoRoom, EntriesFull, Closed, NoSuchIndex, Damaged}

@@ -115,6 +115,7 @@ impl BlockedBitpacker {
     }
 
     // How many values a store that is not damaged holds.
+    #[tactic(auto, unfolding(crate::specs::Store::count_of))]
     fn accepted(self) -> usize
         requires { SoundIn self }
         ensures { result ≡ count_of self }

@@ -20,6 +20,7 @@ pub(crate) struct Entry {
     pub(crate) base: u64,
 }
 
+#[tactic(auto, unfolding(block::specs::Block::entry_offset, block::specs::Block::entry_width, block::specs::Block::entry_base))]
 pub(crate) fn entry_at(entries: &[u64], k: usize) -> Entry
     requires { k * 2 + 1 < length entries.now }
     ensures { (result.offset ≡ entry_offset k entries.now) × (result.width ≡ entry_width k entries.now) × (result.base ≡ entry_base k entries.now) }
@@ -33,6 +34,7 @@ pub(crate) fn entry_at(entries: &[u64], k: usize) -> Entry
 }
 
 // How many values block k holds.
+#[tactic(auto, unfolding(crate::specs::Store::length_of_block))]
 pub(crate) fn block_length(store: BlockedBitpacker, k: usize) -> usize
     requires { k < store.blocks }
     ensures { result ≡ length_of_block store k }

@@ -1,0 +1,67 @@
+-- The two refusals for entries are the definition's first check; the block's own answer, refused for room or sealed, is then carried from the
+-- part at the used offset to the whole areas (`seal_without_room`, `seal_with_room`).
+use Rattle.std.proofs.Common.{ℕ, ◌*◌, ◌≤◌, List, length, arith}
+use Rattle.bit_rule.proofs.Parts.{rest_from, length-rest_from}
+use Rattle.blocked_bitpacker.specs.declared.BlockedBitpacker.{BlockedBitpacker}
+use Rattle.blocked_bitpacker.proofs.Judged.{Judged, judged}
+use Rattle.blocked_bitpacker.proofs.Changing.{SealedIn, block_narrow, sealed_in, not_sealed_in, past_the_limit, past_the_words, seal_without_room, seal_with_room}
+use Rattle.blocked_bitpacker.proofs.BlockedBitpacker.seal.Goals as goal
+
+within : {s : BlockedBitpacker} {byteArea entryArea : ℕ} → Judged s byteArea entryArea → s.used ≤ byteArea
+within known = omega (arith, known.room)
+
+small_used : {s : BlockedBitpacker} {byteArea entryArea : ℕ} → Judged s byteArea entryArea → s.used ≤ 1024 * 16777216
+small_used known = omega (arith, known.sound.used_bound, known.sound.few_blocks)
+
+-- what sealing in the part answered is small
+narrow : (vs : List ℕ) {part after : List ℕ} {base width size : ℕ} → SealedIn vs part base width size after → width ≤ 64
+narrow vs done = omega (arith, done.width_is, block_narrow vs)
+
+small_size : (used : ℕ) (bytes : List ℕ) {vs after : List ℕ} {base width size : ℕ} → SealedIn vs (rest_from used bytes) base width size after → size ≤ length bytes
+small_size used bytes done = omega (arith, done.size_is, done.room, length-rest_from used bytes)
+
+pub returns-then-blocks-ge-MAX_BLOCKS : goal.returns-then-blocks-ge-MAX_BLOCKS
+returns-then-blocks-ge-MAX_BLOCKS c =
+    simp c.refused.ensures (past_the_limit _ _ _ _ _ (judged _ _ _ c.requires) c.if-blocks-ge-MAX_BLOCKS.true)
+
+pub returns-then-entries-at : goal.returns-then-entries-at
+returns-then-entries-at c =
+    simp c.refused-then-entries-at.ensures
+    (past_the_words _ _ _ _ _ (judged _ _ _ c.requires) c.if-blocks-ge-MAX_BLOCKS.false c.if-entries-at.true)
+
+pub slice_bounds-seal-count : goal.slice_bounds-seal-count
+slice_bounds-seal-count c = within (judged _ _ _ c.requires)
+
+pub slice_bounds-seal-start : goal.slice_bounds-seal-start
+slice_bounds-seal-start c = within (judged _ _ _ c.requires)
+
+pub overflow_mul-entries : goal.overflow_mul-entries
+overflow_mul-entries c =
+    omega (arith, narrow c.args.values.now (sealed_in _ _ _ _ _ _ _ c.seal.ensures c.in-Sealed.is))
+
+pub overflow_add-entries : goal.overflow_add-entries
+overflow_add-entries c =
+    omega (
+      arith,
+      narrow c.args.values.now (sealed_in _ _ _ _ _ _ _ c.seal.ensures c.in-Sealed.is),
+      small_used (judged _ _ _ c.requires),
+    )
+
+pub overflow_add-result : goal.overflow_add-result
+overflow_add-result c =
+    omega (
+      arith,
+      small_size c.args.self.used c.args.bytes.now (sealed_in _ _ _ _ _ _ _ c.seal.ensures c.in-Sealed.is),
+      small_used (judged _ _ _ c.requires),
+    )
+
+pub returns-in-Refused : goal.returns-in-Refused
+returns-in-Refused c =
+    simp c.refused-in-Refused.ensures
+    (seal_without_room _ _ _ _ _ (judged _ _ _ c.requires) c.if-blocks-ge-MAX_BLOCKS.false c.if-entries-at.false _ _
+    (not_sealed_in _ _ _ _ _ c.seal.ensures c.in-Refused.is))
+
+pub returns-in-Sealed : goal.returns-in-Sealed
+returns-in-Sealed c =
+    seal_with_room _ _ _ _ _ (judged _ _ _ c.requires) c.if-blocks-ge-MAX_BLOCKS.false c.if-entries-at.false _ _ _ _
+    (sealed_in _ _ _ _ _ _ _ c.seal.ensures c.in-Sealed.is)
