@@ -1,5 +1,5 @@
 -- Both by the last digit: of a number it is the remainder by ten, and what is before it is the quotient's digits.
-use Rattle.std.proofs.Common.{◌≡◌, ℕ, zero, suc, ◌+◌, ◌-◌, ◌*◌, ◌/◌, ◌%◌, ◌^◌, ◌<◌, ◌≤◌, Bool, true, false, cond, eqb, ltb, leb, List, [], ◌∷◌, ◌++◌, length, get_or, take, sym, refl, ap, ◌∙◌, ap₂, le_antisymm, pow-suc, arith, length-append, length-take-le, take_all, take-suc, ltb-false, le-ltb, lt-ltb, ne_eqb, le-leb}
+use Rattle.std.proofs.Common.{◌≡◌, ℕ, zero, suc, ◌+◌, ◌*◌, ◌/◌, ◌%◌, ◌^◌, ◌<◌, ◌≤◌, Bool, true, false, cond, eqb, ltb, leb, List, [], ◌∷◌, ◌++◌, length, get_or, take, sym, refl, ap, ◌∙◌, ap₂, le_antisymm, pow-suc, arith, length-append, length-take-le, take_all, take-suc, ltb-false, le-ltb, lt-ltb, ne_eqb, le-leb}
 use borrow.Author.Tests.{lt-leb}
 use Rattle.io.specs.Digits.{hex_digit_ascii, last_digits}
 use Rattle.decimal.specs.declared.Numeral.TheVariants.{Number, Empty, NotADigit, TooLarge}

@@ -1,6 +1,6 @@
 -- Once a loading is settled, what follows may as well not be read: a loading that was stopped stays as it is, and of a line in which something
 -- is wrong both its end and the end of the text say the same.
-use Rattle.std.proofs.Common.{◌≡◌, ℕ, Bool, true, false, cond, ◌||◌, eqb, List, [], ◌∷◌, sym, refl, ap, ◌∙◌}
+use Rattle.std.proofs.Common.{◌≡◌, ℕ, Bool, true, false, ◌||◌, eqb, List, [], ◌∷◌, sym, refl, ap, ◌∙◌}
 use mathlib.Core.Bool.{false≢true}
 use Rattle.decimal.specs.declared.Numeral.TheVariants.{NotADigit as OtherByte}
 use Rattle.decimal.specs.declared.line.Line.{Line}
