@@ -2,9 +2,8 @@
 -- All by induction on the list or on the count of bytes.
 use mathlib.Core.Path.{◌≡◌, refl, sym, ap, ap₂, ◌∙◌, subst}
 use mathlib.Core.List.{List, [], ◌∷◌, ◌++◌}
-use Prim.Native.Nat.{ℕ, zero, suc, ◌+◌, ◌-◌, ◌*◌, ◌/◌, ◌%◌, ◌^◌, ◌≤◌, ◌<◌}
+use Prim.Native.Nat.{ℕ, zero, suc, ◌+◌, ◌*◌, ◌/◌, ◌%◌, ◌^◌, ◌≤◌, ◌<◌}
 use native.Mathlib.Nat.{pow-suc, mul_comm, mul_assoc, mod-eq_of_lt, zero-div, zero-mod, div-div-eq-div-mul, zero-add, suc-add, div-one, mod-mod}
-use native.Mathlib.Numerals.{add-one}
 use native.Mathlib.Numerals.{towards_suc}
 use native.Mathlib.Omega.{arith}
 use lib.Dec.{lit<}
@@ -12,7 +11,7 @@ use lib.Arith.{mod-mul}
 use lib.Pow as Pow
 use lib.ListN.{length, get_or, take, drop}
 use lib.Seq.{take-nil, sets, sets-eq}
-use Rattle.bit_rule.specs.Bytes.{AreBytes, number, bytes_of, bytes_for}
+use Rattle.bit_rule.specs.Bytes.{AreBytes, number, bytes_of}
 
 -- a byte is eight bits
 pub pow_bytes : (n : ℕ) → 256 ^ n ≡ 2 ^ (8 * n)

@@ -1,11 +1,11 @@
 -- The rest of a slice, lent as `s[a..]`: what it is, and what the slice is once it is back.
 use mathlib.Core.Path.{◌≡◌, ap, ◌∙◌}
-use mathlib.Core.List.{List, [], ◌++◌, append-nil}
+use mathlib.Core.List.{List, ◌++◌, append-nil}
 use Prim.Native.Nat.{ℕ, ◌-◌, ◌≤◌}
 use native.Mathlib.Omega.{arith}
 use lib.ListN.{length, take, drop, length-drop}
 use lib.Seq.{take_all, drop-length}
-use borrow.Rule.Slice.PartMut.{mid_of, put_mid, post_of, Post-is}
+use borrow.Rule.Slice.PartMut.{mid_of, put_mid, Post-is}
 
 -- the rest from a on
 abbrev pub rest_from : ℕ → List ℕ → List ℕ

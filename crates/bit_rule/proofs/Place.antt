@@ -4,12 +4,11 @@
 use mathlib.Core.Path.{◌≡◌, refl, sym, ap, ap₂, ◌∙◌, subst}
 use mathlib.Core.Logic.{⊎_elim}
 use mathlib.Core.Bool.{true}
-use mathlib.Core.List.{List, [], ◌∷◌, ◌++◌, map}
+use mathlib.Core.List.{List, [], ◌∷◌, ◌++◌}
 use Prim.Native.Nat.{ℕ, zero, suc, ◌+◌, ◌-◌, ◌*◌, ◌/◌, ◌%◌, ◌^◌, ◌≤◌, ◌<◌}
 use native.Mathlib.Nat.{mul_comm, mul_assoc, mod-eq_of_lt, div-eq_of_lt, add-mul-div_left, add-mul-mod_self_left, suc-mul, zero-mul, zero-add, add_comm, div-one, le_trans, mul-le-mul_right, add-zero, suc-add, add-mul, mod-lt}
 use native.Mathlib.Numerals.{add-one}
 use native.Mathlib.Omega.{arith}
-use lib.Dec.{lit<}
 use lib.Pow.{pow_pos, pow-add, shr-shr, mod-pow-add, field, mod-mod-pow}
 use lib.ListN.{length, get_or, take, drop, replicate}
 use lib.Seq.{split_at, length-take-le, ext_get_or, get_or-drop}
@@ -19,7 +18,7 @@ use Rattle.bit_rule.specs.Place.{bits_at, value_at, values_from, pieces_from}
 use Rattle.bit_rule.specs.Width.{legal_width}
 use Rattle.bit_rule.proofs.Width.{legal_cases}
 use Rattle.bit_rule.proofs.Bytes.{pow_bytes, number_append, bytes_of-number, number-drop, number-take}
-use Rattle.bit_rule.proofs.Stream.{stream_number-nil, stream_number-cons, stream_number-append, stream_number-lt, total_bits-append, total_bits-of_width, number-stream_bytes, length-stream_bytes, bytes_for_enough}
+use Rattle.bit_rule.proofs.Stream.{stream_number-nil, stream_number-cons, stream_number-append, stream_number-lt, total_bits-of_width, number-stream_bytes, length-stream_bytes}
 
 -- ---- what stands above the bits that are read does not matter
 

@@ -1,15 +1,15 @@
 -- The stream as a number: what a value in front adds, that it stays below 2 ^ (total bits), and that its bytes stand for it.
 -- By induction on the stream; a value is put in front by moving the rest up by its width.
-use mathlib.Core.Path.{◌≡◌, refl, sym, ap, ap₂, ◌∙◌, subst}
+use mathlib.Core.Path.{◌≡◌, refl, sym, ap, ◌∙◌, subst}
 use mathlib.Core.List.{List, [], ◌∷◌, ◌++◌}
-use Prim.Native.Nat.{ℕ, zero, suc, ◌+◌, ◌-◌, ◌*◌, ◌/◌, ◌%◌, ◌^◌, ◌≤◌, ◌<◌}
-use native.Mathlib.Nat.{mul_comm, mul_assoc, mod-eq_of_lt, lt_of_lt_of_le, mul-le-mul_left, add_assoc, zero-add, mul-add, mul-suc, suc-mul}
+use Prim.Native.Nat.{ℕ, suc, ◌+◌, ◌*◌, ◌^◌, ◌≤◌, ◌<◌}
+use native.Mathlib.Nat.{mul_comm, mul_assoc, lt_of_lt_of_le, mul-le-mul_left, zero-add, mul-add, mul-suc, suc-mul}
 use native.Mathlib.Omega.{arith}
 use lib.Dec.{lit<}
-use lib.Pow.{pow_pos, pow_mono, pow-add}
+use lib.Pow.{pow_mono, pow-add}
 use lib.ListN.{length}
-use Rattle.bit_rule.specs.Bytes.{AreBytes, number, bytes_of, bytes_for}
-use Rattle.bit_rule.specs.Stream.{Piece, total_bits, sum_from, stream_number, stream_bytes, Fit, piece_at, of_width}
+use Rattle.bit_rule.specs.Bytes.{AreBytes, number, bytes_for}
+use Rattle.bit_rule.specs.Stream.{Piece, total_bits, sum_from, stream_number, stream_bytes, Fit, of_width}
 use Rattle.bit_rule.proofs.Bytes.{pow_bytes, length-bytes_of, bytes_of_are_bytes, number_of_bytes_of}
 
 -- a stream that begins at bit `at` is the stream times 2 ^ at

@@ -2,14 +2,14 @@
 -- The leading zeros give the number of digits m, with n < 2 ^ m and 2 ^ m ≤ 2 * n + 1, so no power below 2 ^ m bounds n.
 use mathlib.Core.Path.{◌≡◌, refl, sym, ap, ◌∙◌, subst}
 use mathlib.Core.Logic.{◌⊎◌, inl, inr, ⊎_elim}
-use mathlib.Core.Bool.{Bool, true, false, ◌||◌, cond}
-use Prim.Native.Nat.{ℕ, zero, suc, ◌+◌, ◌-◌, ◌*◌, ◌^◌, ◌≤◌, ◌<◌}
-use native.Mathlib.Nat.{lt_of_lt_of_le, lt_of_le_of_lt, pow-suc}
+use mathlib.Core.Bool.{Bool, true, false, ◌||◌}
+use Prim.Native.Nat.{ℕ, suc, ◌+◌, ◌*◌, ◌^◌, ◌≤◌, ◌<◌}
+use native.Mathlib.Nat.{pow-suc}
 use native.Mathlib.Omega.{arith}
-use lib.Dec.{leb, ltb, eqb}
-use lib.Pow.{pow_mono, pow_pos}
-use lib.Count.{count_leading_zeros, leading_length}
-use borrow.Author.Tests.{lt-ltb, le-ltb, le-leb, lt-leb, eq-eqb, leb-true, leb-false, eqb-true}
+use lib.Dec.{leb, eqb}
+use lib.Pow.{pow_mono}
+use lib.Count.{leading_length}
+use borrow.Author.Tests.{lt-ltb, le-ltb, le-leb, leb-true, leb-false, eqb-true}
 use Rattle.bit_rule.specs.Width.{legal_width, digits_of, width_of}
 
 -- one of two numbers is below the other or they are equal, as a case to take

@@ -1,6 +1,6 @@
 -- "Order of checks": a call has a list of tests, each with the answer that it gives, and answers by the first test that holds. Where none
 -- holds, the call does its work. So a reader holds each call's list beside document 01's line for it.
-use Rattle.std.specs.Prelude.{Bool, true, false, cond, List, [], ◌∷◌}
+use Rattle.std.specs.Prelude.{Bool, cond, List, [], ◌∷◌}
 
 -- One line of the list: where `test` holds and no earlier one does, the call gives `answer`.
 pub record Check (A : Type 0) : Type 0 where

@@ -229,6 +229,7 @@ impl Loading {
 
     // The text ends here. Every line of it has its line end: what follows the last one stops it, and so does a text
     // that has no line.
+    #[tactic(auto, using(crate::proofs::Laws::same_loaded, crate::proofs::Laws::end_troubled, crate::proofs::Laws::end_without_line, crate::proofs::Laws::end_after_feed, crate::proofs::Laws::end_in_wrong_line, crate::proofs::Laws::end_in_line))]
     pub fn end(self) -> Loaded
         ensures { result ≡ end_of self }
     {

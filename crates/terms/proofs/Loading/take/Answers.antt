@@ -2,12 +2,15 @@
 -- the rest changes nothing.
 use Rattle.std.proofs.Common.{◌≡◌, false, length, sym, refl, ap, ◌∙◌}
 use Rattle.terms.specs.Loading.{is_trouble}
-use Rattle.terms.proofs.Laws.{same_parts, no_trouble, trouble_stays, loads_feed, loads_other, loads_ends, loads_stops}
+use Rattle.terms.proofs.Laws.{same_parts, no_trouble, trouble_stays, loads_starts, loads_feed, loads_other, loads_ends, loads_stops}
 use Rattle.terms.proofs.Loading.take.Goals as goal
 use Rattle.terms.proofs.Loading.take.Goals.{then-text-i-eq10+else-is_trouble-2, else-text-i-eq10}
 
 pub returns-then-is_trouble : goal.returns-then-is_trouble
 returns-then-is_trouble c = sym (trouble_stays _ _ _ _ (sym c.is_trouble.ensures ∙ c.if-is_trouble.true))
+
+pub loop-i-init : goal.loop-i-init
+loop-i-init c = loads_starts _ _ _ _
 
 pub returns-then-is_trouble-2 : goal.returns-then-is_trouble-2
 returns-then-is_trouble-2 c =
