@@ -3,12 +3,12 @@
 use mathlib.Core.Path.{◌≡◌, refl, sym, ap, ap₂, ◌∙◌, subst, subst₂}
 use mathlib.Core.Logic.{⊎_elim}
 use mathlib.Core.Bool.{Bool, true, false, not, ◌||◌, true≢false}
-use mathlib.Core.List.{List, [], ◌∷◌, ◌++◌}
+use mathlib.Core.List.{List, ◌++◌}
 use Prim.Native.Nat.{ℕ, suc, ◌+◌, ◌-◌, ◌*◌, ◌/◌, ◌%◌, ◌^◌, ◌≤◌, ◌<◌}
-use native.Mathlib.Nat.{lt_of_lt_of_le, div-eq_of_lt, le-div_iff_mul-le, div-div-eq-div-mul, div-one, add_comm, one-mul, add-zero, mul-mod_left, mod-eq_of_lt, sub-zero}
+use native.Mathlib.Nat.{lt_of_lt_of_le, div-eq_of_lt, le-div_iff_mul-le, div-one, add_comm, one-mul, add-zero, mul-mod_left, mod-eq_of_lt, sub-zero}
 use native.Mathlib.Numerals.{add-one}
 use native.Mathlib.Omega.{arith}
-use lib.Dec.{leb, ltb, eqb}
+use lib.Dec.{leb, eqb}
 use lib.Arith.{digits_lt}
 use lib.Bits.{bit_or, or_shifted_r}
 use lib.Pow.{pow_pos, pow_mono, pow-add, shl-shr, shr-shr, high, low, mod-pow-add}

@@ -3,23 +3,22 @@
 -- three on by one (`write_more`), and a flush ends the stream (`flush_all`): a loop that packs has these three as its invariant.
 use mathlib.Core.Path.{◌≡◌, refl, sym, ap, ap₂, ◌∙◌, subst}
 use mathlib.Core.List.{List, [], ◌∷◌, ◌++◌, append_assoc, append-nil}
-use mathlib.Core.Bool.{Bool, true, false, ◌||◌}
-use Prim.Native.Nat.{ℕ, zero, suc, ◌+◌, ◌-◌, ◌*◌, ◌/◌, ◌%◌, ◌^◌, ◌≤◌, ◌<◌}
-use native.Mathlib.Nat.{add_comm, mul_comm, mul_assoc, mul_left_comm, add-zero, mul-zero, add-mul-div_left, add-mul-mod_self_left, div-div-eq-div-mul, lt_of_lt_of_le}
+use mathlib.Core.Bool.{false}
+use Prim.Native.Nat.{ℕ, ◌+◌, ◌-◌, ◌*◌, ◌/◌, ◌%◌, ◌^◌, ◌≤◌, ◌<◌}
+use native.Mathlib.Nat.{mul_comm, mul_assoc, add-zero, mul-zero, add-mul-div_left, add-mul-mod_self_left, div-div-eq-div-mul}
 use native.Mathlib.Omega.{arith}
-use lib.Dec.{leb}
-use lib.Pow.{pow-add, pow_pos, shr_lt}
+use lib.Pow.{pow-add, shr_lt}
 use lib.ListN.{length, take, drop, length-drop, take-append-drop}
 use lib.Seq.{take_at, drop_at, drop-drop, append_snoc}
-use borrow.Author.Tests.{lt-leb, le-leb, le-ltb, lt-ltb}
+use borrow.Author.Tests.{lt-leb}
 use Rattle.bit_rule.specs.Bytes.{bytes_of, bytes_for}
 use Rattle.bit_rule.specs.Stream.{Piece, total_bits, stream_number, stream_bytes, Fit}
 use Rattle.bit_rule.proofs.Bytes.{pow_bytes, pow256_pos, length-bytes_of, bytes_of-add, bytes_of_cut}
-use Rattle.bit_rule.proofs.Stream.{stream_number-nil, stream_number-cons, stream_number-append, stream_number-lt, total_bits-append, bytes_for_enough}
+use Rattle.bit_rule.proofs.Stream.{stream_number-nil, stream_number-cons, stream_number-append, stream_number-lt, total_bits-append}
 use Rattle.bit_rule.proofs.Place.{fit_append}
 use Rattle.refusal.specs.declared.Refusal.TheVariants.{NoRoom}
 use Rattle.bitpacker.specs.declared.BitPacker.{BitPacker}
-use Rattle.bitpacker.specs.declared.Written.TheVariants.{Emitted, Refused}
+use Rattle.bitpacker.specs.declared.Written.TheVariants.{Emitted}
 use Rattle.bitpacker.specs.Packer.{Outcome, outcome, refused, holding, fresh, emit, complete_bytes, damaged_packer, written, write_of, flush_of}
 use Rattle.bitpacker.specs.Run.{after_part, go_on, run_from, pack_of}
 use Rattle.bitpacker.proofs.Laws.{write_room, write_no_room, flush_room, flush_no_room}

@@ -1,9 +1,9 @@
 -- Each refusal is the first of the four tests that holds; past them the word is the sum of what was held and the value above it, of which
 -- `written_held` and `written_word` say what is emitted and what is kept.
-use Rattle.std.proofs.Common.{◌≡◌, sym, ap, ◌∙◌, ◌<◌, ◌^◌, false, leb, arith}
+use Rattle.std.proofs.Common.{sym, ap, ◌∙◌, arith}
 use borrow.Author.Tests.{le-leb, lt-leb, leb-false}
-use Rattle.bitpacker.specs.Packer.{outcome, damaged_packer, write_of}
-use Rattle.bitpacker.proofs.Laws.{Sound, sound, written_held, written_word, write_room, write_no_room}
+use Rattle.bitpacker.specs.Packer.{outcome, write_of}
+use Rattle.bitpacker.proofs.Laws.{sound, written_held, written_word, write_room, write_no_room}
 use Rattle.bitpacker.proofs.BitPacker.write.Goals as goal
 
 pub returns-then-damaged : goal.returns-then-damaged
@@ -12,20 +12,20 @@ returns-then-damaged c = simp (sym c.damaged.ensures ∙ c.if-damaged.true)
 
 pub returns-then-num_bits-gt64 : goal.returns-then-num_bits-gt64
 unfolding write_of
-returns-then-num_bits-gt64 c = simp (sym c.damaged.ensures ∙ c.if-damaged.false, lt-leb _ _ c.if-num_bits-gt64.true)
+returns-then-num_bits-gt64 c = simp (sym c.damaged.ensures ∙ c.if-damaged.false, lt-leb c.args.num_bits 64 (omega arith))
 
 pub returns-then-exceeds : goal.returns-then-exceeds
 unfolding write_of
 returns-then-exceeds c =
     simp (
       sym c.damaged.ensures ∙ c.if-damaged.false,
-      le-leb _ _ c.if-num_bits-gt64.false,
+      le-leb c.args.num_bits 64 (omega arith),
       sym c.exceeds.ensures ∙ c.if-exceeds.true,
     )
 
 pub overflow_add-bits : goal.overflow_add-bits
 overflow_add-bits c =
-    let whole = sound c.args.self (sym c.damaged.ensures ∙ c.if-damaged.false) in omega (arith, whole.bits, c.if-num_bits-gt64.false)
+    let whole = sound c.args.self (sym c.damaged.ensures ∙ c.if-damaged.false) in omega (arith, whole.bits)
 
 pub overflow_shl-word : goal.overflow_shl-word
 overflow_shl-word c = (sound c.args.self (sym c.damaged.ensures ∙ c.if-damaged.false)).bits
@@ -35,14 +35,14 @@ returns-then-bits-lt64 c =
     let whole = sym c.damaged.ensures ∙ c.if-damaged.false in
     let over = sym c.exceeds.ensures ∙ c.if-exceeds.false in
     sym
-    (write_room c.args.self _ _ c.args.output.now whole c.if-num_bits-gt64.false over (omega (arith, c.if-bits-lt64.true))
-    ∙ written_held c.args.self _ _ c.args.output.now (sound c.args.self whole) (leb-false _ _ over) c.if-bits-lt64.true)
+    (write_room c.args.self _ c.args.num_bits c.args.output.now whole (omega arith) over (omega arith)
+    ∙ written_held c.args.self _ c.args.num_bits c.args.output.now (sound c.args.self whole) (leb-false _ _ over) c.if-bits-lt64.true)
 
 pub returns-then-output-lt8 : goal.returns-then-output-lt8
 returns-then-output-lt8 c =
     let whole = sym c.damaged.ensures ∙ c.if-damaged.false in
     let over = sym c.exceeds.ensures ∙ c.if-exceeds.false in
-    sym (write_no_room c.args.self _ _ c.args.output.now whole c.if-num_bits-gt64.false over (omega (arith, c.if-output-lt8.true, c.if-bits-lt64.false)))
+    sym (write_no_room c.args.self _ c.args.num_bits c.args.output.now whole (omega arith) over (omega arith))
 
 pub overflow_sub-result : goal.overflow_sub-result
 overflow_sub-result c = let whole = sound c.args.self (sym c.damaged.ensures ∙ c.if-damaged.false) in omega (arith, whole.bits)
@@ -53,6 +53,6 @@ returns c =
     let over = sym c.exceeds.ensures ∙ c.if-exceeds.false in
     let kept = sound c.args.self whole in
     sym
-    (write_room c.args.self _ _ c.args.output.now whole c.if-num_bits-gt64.false over (omega (arith, c.if-output-lt8.false, kept.bits, c.if-num_bits-gt64.false))
-    ∙ written_word c.args.self _ _ c.args.output.now kept (leb-false _ _ over) c.if-bits-lt64.false c.if-num_bits-gt64.false
+    (write_room c.args.self _ c.args.num_bits c.args.output.now whole (omega arith) over (omega (arith, kept.bits))
+    ∙ written_word c.args.self _ c.args.num_bits c.args.output.now kept (leb-false _ _ over) c.if-bits-lt64.false (omega arith)
     ∙ ap (outcome _) (sym c.store_word.ensures))
