@@ -13,6 +13,7 @@ pub returns-then-waiting-eq0 : goal.returns-then-waiting-eq0
 unfolding flush_of
 returns-then-waiting-eq0 c = simp (sym c.if-is_damaged.ensures, eq-eqb _ 0 c.if-waiting-eq0.true)
 
+-- the buffer's type says how long it is
 pub slice_bounds-values-end : goal.slice_bounds-values-end
 slice_bounds-values-end c =
     let counts = (judged _ _ _ (sym c.if-is_damaged.ensures)).sound in

@@ -1,5 +1,5 @@
 -- The refusals are the three tests in their order. Past them the value is read from its block, or is one of those that wait.
-use Rattle.std.proofs.Common.{◌/◌, ◌<◌, leb, sym, ap, ◌∙◌, subst, lt-ltb, le-ltb, le-leb}
+use Rattle.std.proofs.Common.{◌<◌, leb, sym, ap, ◌∙◌, subst, lt-ltb, le-ltb, le-leb}
 use borrow.Author.Tests.{lt-leb}
 use Rattle.blocked_bitpacker.specs.Store.{count_of, value_of}
 use Rattle.blocked_bitpacker.specs.Calls.{get_of}
@@ -29,11 +29,11 @@ pub returns-then-block-self : goal.returns-then-block-self
 unfolding get_of block_got value_of
 returns-then-block-self c =
     let below : c.args.idx < count_of c.args.self = subst (λ n. c.args.idx < n) c.accepted.ensures c.if-accepted-idx.false in
-    simp (sym c.if-is_damaged.ensures, lt-leb _ _ below, lt-ltb (c.args.idx / 128) c.args.self.blocks c.if-block-self.true)
+    simp (sym c.if-is_damaged.ensures, lt-leb _ _ below, lt-ltb _ _ c.if-block-self.true)
     c.get_in_block.ensures
 
 pub returns : goal.returns
 unfolding get_of value_of
 returns c =
     let below : c.args.idx < count_of c.args.self = subst (λ n. c.args.idx < n) c.accepted.ensures c.if-accepted-idx.false in
-    simp (sym c.if-is_damaged.ensures, lt-leb _ _ below, le-ltb (c.args.idx / 128) c.args.self.blocks c.if-block-self.false)
+    simp (sym c.if-is_damaged.ensures, lt-leb _ _ below, le-ltb _ _ c.if-block-self.false)
