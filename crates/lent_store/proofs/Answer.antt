@@ -1,6 +1,6 @@
 -- What a call by value answers, a `Stored`, taken apart: its two fields' machine values, what is known of each, and that each has its type.
 -- All of it follows from the laws that the checker makes of the three types.
-use mathlib.Core.List.{[], ◌∷◌, List}
+use mathlib.Core.List.{[], ◌∷◌}
 use lib.Dec.{T as Holds}
 use seplogic.Ra.Ura.{Ura}
 use mir.Val.{Val, WT, has_ty}

@@ -62,11 +62,12 @@ overflow_add-at c =
     (more_words c.args.list.now c.loop-i.i c.loop-i-test.true) (Emitted _ _) _
     (wrote c.args.list.now c.args.width c.loop-i.i c.word_at.result _ _ _ (Emitted _ _) c.loop-i-test.true c.word_at.ensures c.in-Emitted.ensures)
     c.write.auto.output _ _ refl in
-    omega
-    (arith,
-    place_within _ _ _ _ (fit c.args.list.now c.args.width c.requires.width_bound.1) c.requires.width_bound.0
-    (room c.args.list.now c.args.width c.args.output.now c.requires.width_in_bounds) next,
-    next.same)
+    omega (
+      arith,
+      place_within _ _ _ _ (fit c.args.list.now c.args.width c.requires.width_bound.1) c.requires.width_bound.0
+          (room c.args.list.now c.args.width c.args.output.now c.requires.width_in_bounds) next,
+      next.same,
+    )
 
 pub returns-in-Refused : goal.returns-in-Refused
 returns-in-Refused c =
