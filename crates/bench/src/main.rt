@@ -10,8 +10,6 @@ mod number;
 mod pack;
 mod store;
 
-use libc::STDOUT_FILENO;
-
 // The most values, and the widest spacing.
 const VALUES: u64 = 400_000;
 
@@ -25,27 +23,26 @@ fn work(kind: u64, width: u8, count: u32, spacing: u32, times: usize) -> u64 {
     }
 }
 
-fn main() {
-    let width = number::argument(2);
-    let count = number::argument(3);
-    let spacing = number::argument(4);
+fn main(rt: HostRuntime) -> std::io::Result<()> {
+    let width = number::argument(&rt, 2);
+    let count = number::argument(&rt, 3);
+    let spacing = number::argument(&rt, 4);
     if width > 64 {
-        return;
+        return Ok(());
     }
     if count > VALUES {
-        return;
+        return Ok(());
     }
     if spacing > VALUES {
-        return;
+        return Ok(());
     }
-    let times = number::argument(5) as usize;
+    let times = number::argument(&rt, 5) as usize;
     let sum = work(
-        number::argument(1),
+        number::argument(&rt, 1),
         width as u8,
         count as u32,
         spacing as u32,
         times,
     );
-    io::print_decimal(STDOUT_FILENO, sum);
-    io::write_all(STDOUT_FILENO, b"\n");
+    println!(rt; "{sum}")
 }

@@ -1,4 +1,5 @@
 // The program's arguments, which are decimal numbers.
+use std::rt::Env;
 
 // The number that digits stand for; anything else, and what is too large, counts as 0.
 fn parse(text: &[u8]) -> u64 {
@@ -19,8 +20,11 @@ fn parse(text: &[u8]) -> u64 {
     value
 }
 
-pub fn argument(place: usize) -> u64 {
+// One that is missing, or longer than a page, counts as 0 too.
+pub fn argument(rt: &impl Env, place: usize) -> u64 {
     let mut text = io::buffer();
-    let n = os::arg(place, &mut text);
-    parse(&text[..n])
+    match rt.arg(place, &mut text) {
+        Ok(n) => parse(&text[..n]),
+        Err(_) => 0,
+    }
 }

@@ -13,9 +13,11 @@ mod step;
 mod store;
 
 use areas::ROOM;
-use libc::STDIN_FILENO;
 use line::{at_most, read_byte};
 use state::State;
+use std::env;
+use std::fs::File;
+use std::io::Read;
 
 // Takes the step of a line that a byte ends. Its first number is the step's kind, and the step is lent as much of
 // the areas as the state says.
@@ -58,50 +60,42 @@ fn answer_page(
     state
 }
 
-// A proved loop has to end, and nothing says that the input does: the turns are counted down from a number
-// that no run uses up.
-fn answer_each(
-    fd: i32,
+// A proved loop has to end, and nothing says that the input does: the turns are counted up to a number
+// that no run reaches.
+fn answer_each<R: Read>(
+    reader: &mut R,
     page: &mut [u8],
     numbers: &mut [u64; ROOM],
     bytes: &mut [u8],
     entries: &mut [u64],
-) {
+) -> std::io::Result<()> {
     let mut state = State::new();
-    let mut turns = u64::MAX;
-    while turns > 0 {
-        let n = io::count(libc::read(fd, page), page);
+    for _ in 0..u64::MAX {
+        let n = reader.read(page)?;
         if n == 0 {
-            return;
+            break;
         }
         state = answer_page(state, &page[..n], numbers, bytes, entries);
-        turns -= 1;
     }
+    Ok(())
 }
 
-fn answer_file(fd: i32) {
+fn answer_all<R: Read>(reader: &mut R) -> std::io::Result<()> {
     let mut page = io::large_buffer();
     let mut numbers = areas::numbers();
     read_byte(b'\n', 0, &mut numbers);
     let mut bytes = areas::bytes();
     let mut entries = areas::entries();
-    answer_each(fd, &mut page, &mut numbers, &mut bytes, &mut entries);
+    answer_each(reader, &mut page, &mut numbers, &mut bytes, &mut entries)
 }
 
 // A file that cannot be opened is said on standard error, and nothing is answered.
-fn main() {
-    if os::arg_count() < 2 {
-        answer_file(STDIN_FILENO);
-        return;
+fn main(rt: HostRuntime) -> std::io::Result<()> {
+    let Some(name) = env::args(&rt)?.nth(1) else {
+        return answer_all(&mut rt.stdin());
+    };
+    match File::open(&rt, name.as_str()) {
+        Ok(mut file) => answer_all(&mut file),
+        Err(error) => eprintln!(rt; "{name}: {error}"),
     }
-    let mut path = io::buffer();
-    let n = os::arg(1, &mut path);
-    let name = &path[..n];
-    let fd = os::open_read(name);
-    if fd < 0 {
-        os::fail(name);
-        return;
-    }
-    answer_file(fd);
-    libc::close(fd);
 }

@@ -26,6 +26,7 @@ const INFINITY: u64 = 0x7ff0_0000_0000_0000;
 const NAN: u64 = 0x7ff8_0000_0000_0000;
 
 // Which NaN it is makes no difference to any comparison.
+#[tactic(auto, using(std::proofs::lemmas::Float::not_nan_f64_bits))]
 fn float_of(pattern: u64) -> f64 {
     if pattern % SIGN > INFINITY {
         return 0.0 / 0.0;

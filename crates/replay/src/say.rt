@@ -2,7 +2,9 @@
 ghost use Rattle.std.specs.Prelude.{◌≤◌};
 
 use crate::line::at_most;
-use libc::STDOUT_FILENO;
+
+// The descriptor of standard output.
+const STDOUT: i32 = 1;
 
 // What is to be printed gathers in a page of so many bytes.
 const PAGE: usize = 4096;
@@ -14,7 +16,7 @@ fn print(page: &[u8; PAGE], end: usize)
     requires { end ≤ 4096 }
 {
     let whole = &page[..];
-    io::write_all(STDOUT_FILENO, &whole[0..end]);
+    io::write_all(STDOUT, &whole[0..end]);
 }
 
 // Prints a page that is full, and answers where its bytes end then.
