@@ -1,41 +1,80 @@
 // The desk's program: its words in, an answer on standard output or a refusal on standard error, and last its status.
 #![tactic(auto)]
 
+ghost use Rattle.std.specs.Prelude.{◌≤◌, length};
+
 use desk::Request;
-use libc::{STDERR_FILENO, STDOUT_FILENO};
+use std::env::FillError;
+use std::rt::{Env, Files};
+
+const STDOUT_FILENO: i32 = 1;
+
+const STDERR_FILENO: i32 = 2;
 
 // Where the status is said, to a caller whose first word asks for it: a program of this language has no exit status.
 const STATUS_FILENO: i32 = 29;
 
+// A word that was put at the start of a buffer: its length, which is 0 where it is missing or too long for the buffer.
+#[derive(Clone, Copy)]
+struct Word {
+    length: usize,
+    missing: bool,
+    long: bool,
+}
+
+fn read_word(rt: &impl Env, i: usize, buffer: &mut [u8]) -> Word
+    ensures { result.length ≤ length buffer.new }
+{
+    match rt.arg(i, buffer) {
+        Ok(length) => Word {
+            length,
+            missing: false,
+            long: false,
+        },
+        Err(FillError::NotPresent) => Word {
+            length: 0,
+            missing: true,
+            long: false,
+        },
+        Err(FillError::TooLong) => Word {
+            length: 0,
+            missing: false,
+            long: true,
+        },
+    }
+}
+
 // Whether the first word asks for the status.
-fn is_asked_for_status() -> bool {
-    let mut word = io::buffer();
-    let n = os::arg(1, &mut word);
-    desk::same_word(&word[..n], b"--status-fd=29")
+fn is_asked_for_status(rt: &impl Env) -> bool {
+    let mut buffer = io::buffer();
+    let n = read_word(rt, 1, &mut buffer).length;
+    desk::same_word(&buffer[..n], b"--status-fd=29")
 }
 
 // How many words there are behind so many.
-fn words_behind(others: usize) -> usize {
-    let count = os::arg_count();
-    if count < others {
-        return 0;
+fn words_behind(rt: &impl Env, others: usize) -> usize {
+    let mut buffer = [0u8; 1];
+    for i in others..usize::MAX {
+        if read_word(rt, i, &mut buffer).missing {
+            return i - others;
+        }
     }
-    count - others
+    usize::MAX - others
 }
 
 // The first word that was too long for its buffer: one before, or the one that was read last, or 0.
-fn too_long(before: usize, word: usize) -> usize {
+fn too_long(before: usize, number: usize, word: Word) -> usize {
     if before != 0 {
         return before;
     }
-    if os::errno() == libc::ENAMETOOLONG {
-        return word;
+    if word.long {
+        return number;
     }
     0
 }
 
 // What the words behind so many ask for.
-fn asked_behind(others: u8) -> Request {
+fn asked_behind(rt: &impl Env, others: u8) -> Request {
     let first = others as usize;
     let mut verb = io::buffer();
     let mut path = io::buffer();
@@ -43,43 +82,43 @@ fn asked_behind(others: u8) -> Request {
     let mut fourth = io::buffer();
     let mut fifth = io::buffer();
     let mut sixth = io::buffer();
-    let a = os::arg(first, &mut verb);
-    let mut long = too_long(0, 1);
-    os::arg(first + 1, &mut path);
-    long = too_long(long, 2);
-    let c = os::arg(first + 2, &mut third);
-    long = too_long(long, 3);
-    let d = os::arg(first + 3, &mut fourth);
-    long = too_long(long, 4);
-    let e = os::arg(first + 4, &mut fifth);
-    long = too_long(long, 5);
-    let f = os::arg(first + 5, &mut sixth);
-    long = too_long(long, 6);
+    let a = read_word(rt, first, &mut verb);
+    let b = read_word(rt, first + 1, &mut path);
+    let c = read_word(rt, first + 2, &mut third);
+    let d = read_word(rt, first + 3, &mut fourth);
+    let e = read_word(rt, first + 4, &mut fifth);
+    let f = read_word(rt, first + 5, &mut sixth);
+    let mut long = too_long(0, 1, a);
+    long = too_long(long, 2, b);
+    long = too_long(long, 3, c);
+    long = too_long(long, 4, d);
+    long = too_long(long, 5, e);
+    long = too_long(long, 6, f);
     desk::asked(
-        words_behind(first),
+        words_behind(rt, first),
         long,
-        &verb[..a],
-        &third[..c],
-        &fourth[..d],
-        &fifth[..e],
-        &sixth[..f],
+        &verb[..a.length],
+        &third[..c.length],
+        &fourth[..d.length],
+        &fifth[..e.length],
+        &sixth[..f.length],
     )
 }
 
 // Answers the words behind so many, and gives the status.
-fn answer(others: u8) -> u8 {
-    let request = asked_behind(others);
+fn answer(rt: &(impl Env + Files), others: u8) -> u8 {
+    let request = asked_behind(rt, others);
     let mut path = io::buffer();
-    let n = os::arg(others as usize + 1, &mut path);
-    let status = serve::serve(STDOUT_FILENO, STDERR_FILENO, request, &path[..n]);
-    serve::handed_over(STDOUT_FILENO, STDERR_FILENO, status)
+    let n = read_word(rt, others as usize + 1, &mut path).length;
+    let status = serve::serve(rt, STDOUT_FILENO, STDERR_FILENO, request, &path[..n]);
+    serve::handed_over(rt, STDOUT_FILENO, STDERR_FILENO, status)
 }
 
-fn main() {
-    if is_asked_for_status() {
-        let status = answer(2);
+fn main(rt: HostRuntime) {
+    if is_asked_for_status(&rt) {
+        let status = answer(&rt, 2);
         io::write_all(STATUS_FILENO, &[serve::digit(status)]);
         return;
     }
-    answer(1);
+    answer(&rt, 1);
 }

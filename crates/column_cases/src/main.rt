@@ -3,7 +3,11 @@
 
 mod words;
 
-use libc::STDOUT_FILENO;
+use std::fs::File;
+use std::os::fd::AsRawFd;
+use std::rt::Files;
+
+const STDOUT_FILENO: i32 = 1;
 
 // `$ column WORDS`
 fn say_call(line: &[u8]) {
@@ -23,7 +27,7 @@ fn say_status(status: u8) {
 }
 
 // One call: the line is its words.
-fn call(line: &[u8]) {
+fn call(rt: &impl Files, line: &[u8]) {
     say_call(line);
     let request = desk::asked(
         words::count(line),
@@ -35,31 +39,33 @@ fn call(line: &[u8]) {
         words::word(line, 6),
     );
     let path = words::word(line, 2);
-    say_status(serve::serve(STDOUT_FILENO, STDOUT_FILENO, request, path));
+    say_status(serve::serve(rt, STDOUT_FILENO, STDOUT_FILENO, request, path));
 }
 
 // Each line that ends with a line feed.
-fn calls(text: &[u8]) {
+fn calls(rt: &impl Files, text: &[u8]) {
     let mut from = 0;
     loop {
-        let stop = bytes::scan::find(text, from, text.len(), b'\n');
+        let stop = words::find(text, from, b'\n');
         if stop >= text.len() {
             return;
         }
-        call(&text[from..stop]);
+        call(rt, &text[from..stop]);
         from = stop + 1;
     }
 }
 
-fn main() {
-    let name = b"cases";
-    let fd = os::open_read(name);
-    if fd < 0 {
-        os::fail(name);
-        return;
+fn main(rt: HostRuntime) {
+    let name = "cases";
+    match File::open(&rt, name) {
+        Ok(file) => {
+            let mut buffer = io::large_buffer();
+            let n = io::read_full(file.as_raw_fd(), &mut buffer);
+            drop(file);
+            calls(&rt, &buffer[..n]);
+        }
+        Err(why) => {
+            let _ = eprintln!(rt; "{name}: {why}");
+        }
     }
-    let mut buffer = io::large_buffer();
-    let n = io::read_full(fd, &mut buffer);
-    libc::close(fd);
-    calls(&buffer[..n]);
 }

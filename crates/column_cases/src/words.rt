@@ -3,6 +3,17 @@ ghost use Rattle.std.specs.Prelude.{◌≤◌, length};
 
 use std::num::wrapping_add_usize;
 
+// Where a byte stands first, from an index on, or the text's end where it does not.
+pub(crate) fn find(text: &[u8], from: usize, byte: u8) -> usize
+    requires { from ≤ length text.now }
+    ensures { (from ≤ result) × (result ≤ length text.now) }
+{
+    match text[from..].iter().position(|b| *b == byte) {
+        Some(i) => from + i,
+        None => text.len(),
+    }
+}
+
 // How many words there are. An empty line has none.
 pub(crate) fn count(line: &[u8]) -> usize {
     if line.len() == 0 {
@@ -24,7 +35,7 @@ fn end_of(line: &[u8], from: usize) -> usize
     requires { from ≤ length line.now }
     ensures { (from ≤ result) × (result ≤ length line.now) }
 {
-    bytes::scan::find(line, from, line.len(), b' ')
+    find(line, from, b' ')
 }
 
 // Where the word behind the one at an index starts, or the line's end where there is none.

@@ -151,14 +151,21 @@ pub fn text(err: i32, path: &[u8], loaded: Loaded) -> u8
 
 // ---- the world
 
+// The system's numbers for why a file cannot be opened or read.
+const ENOENT: i32 = 2;
+
+const EACCES: i32 = 13;
+
+const EISDIR: i32 = 21;
+
 fn because(err: i32, error: i32) -> bool {
-    if error == libc::ENOENT {
+    if error == ENOENT {
         return io::write_all(err, b"there is no such file; check its name\n");
     }
-    if error == libc::EACCES {
+    if error == EACCES {
         return io::write_all(err, b"it may not be read; ask for the right to read it\n");
     }
-    if error == libc::EISDIR {
+    if error == EISDIR {
         return io::write_all(err, b"it is a folder; name a file in it\n");
     }
     io::write_all(

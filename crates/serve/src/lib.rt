@@ -3,6 +3,7 @@
 #![tactic(auto)]
 
 mod file;
+mod kept;
 mod page;
 mod rows;
 
@@ -14,6 +15,7 @@ use blocked_bitpacker::{BlockedBitpacker, Counted};
 use desk::Request;
 use file::{byte_area, entry_area, position_area};
 use notices::{ANSWERED, REFUSED};
+use std::rt::Files;
 
 fn get(
     out: i32,
@@ -131,17 +133,16 @@ fn answer(
 }
 
 // Loads the file and answers from the store.
-fn from_file(out: i32, err: i32, request: Request, path: &[u8]) -> u8
+fn from_file<R: Files>(rt: &R, out: i32, err: i32, request: Request, path: &[u8]) -> u8
     ensures { result ≤ 1 }
 {
-    let fd = os::open_read(path);
-    if fd < 0 {
-        return notices::file(err, path, os::errno());
-    }
+    let file = match file::open(rt, path) {
+        Ok(file) => file,
+        Err(error) => return notices::file(err, path, error),
+    };
     let mut bytes = byte_area();
     let mut entries = entry_area();
-    let read = file::load(fd, &mut bytes, &mut entries);
-    libc::close(fd);
+    let read = file::load(file, &mut bytes, &mut entries);
     if read.failed {
         return notices::file(err, path, read.error);
     }
@@ -155,29 +156,29 @@ fn from_file(out: i32, err: i32, request: Request, path: &[u8]) -> u8
 
 // Answers a request on the file of a name. Words that are no request have status 2 and no others have; whether a request is
 // answered or refused is the file's, and the contract leaves it open (docs/PROMISES.md).
-pub fn serve(out: i32, err: i32, request: Request, path: &[u8]) -> u8
+pub fn serve<R: Files>(rt: &R, out: i32, err: i32, request: Request, path: &[u8]) -> u8
     ensures { Status request result }
 {
     match request {
         Request::Help => notices::help(out, err),
         Request::Version => notices::version(out, err),
         Request::Wrong(fault) => notices::wrong(err, fault),
-        Request::Show => from_file(out, err, request, path),
-        Request::Get(_) => from_file(out, err, request, path),
-        Request::List(_, _) => from_file(out, err, request, path),
-        Request::ListPart(_, _, _, _) => from_file(out, err, request, path),
+        Request::Show => from_file(rt, out, err, request, path),
+        Request::Get(_) => from_file(rt, out, err, request, path),
+        Request::List(_, _) => from_file(rt, out, err, request, path),
+        Request::ListPart(_, _, _, _) => from_file(rt, out, err, request, path),
     }
 }
 
-// The status of a call whose answer, if it has one, is handed over by closing standard output: what could not be kept, as
-// on a full disk behind a network, shows there at the latest.
-pub fn handed_over(out: i32, err: i32, status: u8) -> u8
+// The status of a call whose answer, if it has one, is handed over by seeing that it is kept: what could not be, as on a full
+// disk behind a network, shows there at the latest.
+pub fn handed_over<R: Files>(rt: &R, out: i32, err: i32, status: u8) -> u8
     ensures { HandedOver status result }
 {
     if status != ANSWERED {
         return status;
     }
-    if libc::close(out) < 0 {
+    if kept::is_lost(rt, out) {
         return notices::unwritable(err);
     }
     ANSWERED

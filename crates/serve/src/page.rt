@@ -9,7 +9,7 @@ pub(crate) struct Page {
     pub(crate) failed: bool,
 }
 
-fn copy(text: &[u8], page: &mut [u8], at: usize)
+pub(crate) fn copy(text: &[u8], page: &mut [u8], at: usize)
     requires { at + length text.now ≤ length page.old }
 {
     let mut i = 0;
