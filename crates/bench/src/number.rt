@@ -20,7 +20,7 @@ fn parse(text: &[u8]) -> u64 {
     value
 }
 
-// One that is missing, or longer than a page, counts as 0 too.
+// One that is missing, or has more than 4,096 bytes, counts as 0 too.
 pub fn argument(rt: &impl Env, place: usize) -> u64 {
     let mut text = io::buffer();
     match rt.arg(place, &mut text) {

@@ -89,7 +89,8 @@ fn answer_all<R: Read>(reader: &mut R) -> std::io::Result<()> {
     answer_each(reader, &mut page, &mut numbers, &mut bytes, &mut entries)
 }
 
-// A file that cannot be opened is said on standard error, and nothing is answered.
+// A file that cannot be opened is said on standard error, and nothing is answered. A read that fails ends the program
+// with its error.
 fn main(rt: HostRuntime) -> std::io::Result<()> {
     let Some(name) = env::args(&rt)?.nth(1) else {
         return answer_all(&mut rt.stdin());
