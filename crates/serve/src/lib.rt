@@ -171,7 +171,7 @@ pub fn serve<R: Files>(rt: &R, out: i32, err: i32, request: Request, path: &[u8]
 }
 
 // The status of a call whose answer, if it has one, is handed over by seeing that it is kept: what could not be, as on a full
-// disk behind a network, shows there at the latest.
+// disk behind a network, shows there as far as it can be seen (docs/DECISIONS.md, 50).
 pub fn handed_over<R: Files>(rt: &R, out: i32, err: i32, status: u8) -> u8
     ensures { HandedOver status result }
 {
