@@ -3,7 +3,7 @@ ghost use Rattle.std.specs.Prelude.{◌≤◌, length};
 
 use crate::areas::{byte_area, bytes_lent, position_area};
 use crate::pack;
-use bitunpacker::{BitUnpacker, Found, Got, Made};
+use bitunpacker::BitUnpacker;
 use std::num::{wrapping_add_u32, wrapping_add_u64};
 
 // How far apart two reads are, so that they jump about in the column.
@@ -24,10 +24,10 @@ fn get_each(unpacker: BitUnpacker, data: &[u8], count: u32) -> u64 {
     let mut index: u32 = 0;
     for _ in 0..count {
         match unpacker.get(index, data) {
-            Got::Value(value) => {
+            Ok(value) => {
                 sum = wrapping_add_u64(sum, value);
             }
-            Got::Refused(_) => {
+            Err(_) => {
                 return 0;
             }
         }
@@ -44,7 +44,7 @@ fn ranges(unpacker: BitUnpacker, data: &[u8], turns: u32, step: u32, output: &mu
     let mut start = 0;
     for _ in 0..turns {
         output[0] = 0;
-        unpacker.get_range(start, data, output);
+        let _ = unpacker.get_range(start, data, output);
         sum = wrapping_add_u64(sum, output[0]);
         start = wrapping_add_u32(start, step);
     }
@@ -54,8 +54,8 @@ fn ranges(unpacker: BitUnpacker, data: &[u8], turns: u32, step: u32, output: &mu
 fn search(unpacker: BitUnpacker, data: &[u8], count: u32) -> u64 {
     let mut positions = position_area();
     match unpacker.get_ids_for_value_range(1, 1, 0, count, data, &mut positions) {
-        Found::Ids(found) => found as u64,
-        Found::Refused(_) => 0,
+        Ok(found) => found as u64,
+        Err(_) => 0,
     }
 }
 
@@ -77,7 +77,7 @@ fn ask(kind: u64, unpacker: BitUnpacker, data: &[u8], count: u32) -> u64 {
 pub fn work(kind: u64, width: u8, count: u32, spacing: u32, times: usize) -> u64 {
     let mut bytes = byte_area();
     pack::fill(width, count as usize, spacing as usize, &mut bytes);
-    let Made::Unpacker(unpacker) = BitUnpacker::new(width) else {
+    let Ok(unpacker) = BitUnpacker::new(width) else {
         return 0;
     };
     let data = &bytes[0..bytes_lent(count)];

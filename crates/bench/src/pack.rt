@@ -1,6 +1,6 @@
 // Packing.
 use crate::areas::byte_area;
-use bitpacker::{BitPacker, Written};
+use bitpacker::BitPacker;
 use std::num::{wrapping_add_u64, wrapping_add_usize};
 
 // Every spacing-th value is 1.
@@ -20,11 +20,11 @@ pub fn fill(width: u8, count: usize, spacing: usize, bytes: &mut [u8]) -> u64 {
             return 0;
         }
         match packer.write(value_at(i, spacing), width, &mut bytes[at..]) {
-            Written::Emitted(next, n) => {
-                packer = next;
-                at = wrapping_add_usize(at, n);
+            Ok(written) => {
+                packer = written.packer;
+                at = wrapping_add_usize(at, written.emitted);
             }
-            Written::Refused(_) => {
+            Err(_) => {
                 return 0;
             }
         }
@@ -37,8 +37,8 @@ fn finish(packer: BitPacker, at: usize, bytes: &mut [u8]) -> u64 {
         return 0;
     }
     match packer.flush(&mut bytes[at..]) {
-        Written::Emitted(_, n) => wrapping_add_u64(at as u64, n as u64),
-        Written::Refused(_) => 0,
+        Ok(written) => wrapping_add_u64(at as u64, written.emitted as u64),
+        Err(_) => 0,
     }
 }
 

@@ -1,7 +1,6 @@
 // Adding to a store, reading it and searching it.
 use crate::areas::{byte_area, bytes_lent, entry_area, position_area};
 use crate::pack;
-use bitunpacker::{Filled, Found};
 use blocked_bitpacker::BlockedBitpacker;
 use std::num::wrapping_add_u64;
 
@@ -22,7 +21,7 @@ fn add_lent(
     bytes: &mut [u8],
     entries: &mut [u64],
 ) -> BlockedBitpacker {
-    lent_store::add(&mut store, val, bytes, entries);
+    let _ = lent_store::add(&mut store, val, bytes, entries);
     store
 }
 
@@ -46,10 +45,10 @@ fn range(store: BlockedBitpacker, count: u32, bytes: &[u8], entries: &[u64]) -> 
     let mut sum = 0;
     for i in 0..count as usize / 1000 {
         match store.get_range(i * 1000, bytes, entries, &mut output) {
-            Filled::Done => {
+            Ok(()) => {
                 sum = wrapping_add_u64(sum, output[0]);
             }
-            Filled::Refused(_) => {
+            Err(_) => {
                 return sum;
             }
         }
@@ -60,8 +59,8 @@ fn range(store: BlockedBitpacker, count: u32, bytes: &[u8], entries: &[u64]) -> 
 fn search(store: BlockedBitpacker, count: u32, bytes: &[u8], entries: &[u64]) -> u64 {
     let mut positions = position_area();
     match store.get_ids_for_value_range(1, 1, 0, count, bytes, entries, &mut positions) {
-        Found::Ids(found) => found as u64,
-        Found::Refused(_) => 0,
+        Ok(found) => found as u64,
+        Err(_) => 0,
     }
 }
 

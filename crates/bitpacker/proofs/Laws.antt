@@ -1,5 +1,6 @@
 -- What the packer's operations on words come to in numbers: the value goes above the held bits, so the word is a sum; its low 64 bits are
 -- emitted, and what a shift leaves of the value is the sum's quotient by 2 ^ 64. All by lib.Pow's cuts.
+use Rattle.std.specs.Prelude.{Ok}
 use mathlib.Core.Path.{◌≡◌, refl, sym, ap, ap₂, ◌∙◌, subst, subst₂}
 use mathlib.Core.Logic.{⊎_elim}
 use mathlib.Core.Bool.{Bool, true, false, not, ◌||◌, true≢false}
@@ -20,8 +21,7 @@ use Rattle.bit_rule.proofs.Bytes.{length-bytes_of, bytes_of-add, bytes_of_cut}
 use Rattle.bit_rule.proofs.Width.{le_or_lt}
 use Rattle.refusal.specs.declared.Refusal.TheVariants.{NoRoom}
 use Rattle.bitpacker.specs.declared.BitPacker.{BitPacker}
-use Rattle.bitpacker.specs.declared.Written.TheVariants.{Emitted}
-use Rattle.bitpacker.specs.Packer.{outcome, refused, holding, fresh, emit, complete_bytes, damaged_packer, written, write_of, flush_of}
+use Rattle.bitpacker.specs.Packer.{outcome, refused, holding, fresh, emit, complete_bytes, damaged_packer, written, write_of, flush_of, emitting}
 
 -- a quotient by 2 ^ bits is 0 exactly below 2 ^ bits
 pub over_law : (bits x : ℕ) → not (eqb (x / 2 ^ bits) 0) ≡ leb (2 ^ bits) x
@@ -98,7 +98,7 @@ module _ (p : BitPacker) (v w : ℕ) (out : List ℕ) (p-sound : Sound p) (fits 
   pub written_held : p.mini_buffer_written + w < 64
       → written p v w out
       ≡ outcome
-      (Emitted (holding (p.mini_buffer_written + w) (bit_or p.mini_buffer ((v * 2 ^ p.mini_buffer_written) % 2 ^ 64))) 0)
+      (emitting (holding (p.mini_buffer_written + w) (bit_or p.mini_buffer ((v * 2 ^ p.mini_buffer_written) % 2 ^ 64))) 0)
       out
   unfolding written bytes_of
   written_held short =
@@ -111,14 +111,14 @@ module _ (p : BitPacker) (v w : ℕ) (out : List ℕ) (p-sound : Sound p) (fits 
       (pow_mono {i = w + b} {j = 64} (omega (arith, p-sound.bits))) in
       let word : sum / 1 ≡ bit_or h ((v * 2 ^ b) % 2 ^ 64) =
       div-one sum ∙ sym (mod-eq_of_lt small) ∙ sym (word_sum 64 b h v (omega (arith, p-sound.bits)) p-sound.held) in
-      ap (λ q. outcome (Emitted (holding (b + w - 8 * (8 * q)) (sum / 256 ^ (8 * q))) (8 * q)) (emit (8 * q) sum out)) (div-eq_of_lt short)
-      ∙ ap₂ (λ x y. outcome (Emitted (holding x y) 0) out) (sub-zero (b + w)) word
+      ap (λ q. outcome (emitting (holding (b + w - 8 * (8 * q)) (sum / 256 ^ (8 * q))) (8 * q)) (emit (8 * q) sum out)) (div-eq_of_lt short)
+      ∙ ap₂ (λ x y. outcome (emitting (holding x y) 0) out) (sub-zero (b + w)) word
 
   -- a word is complete
   pub written_word : 64 ≤ p.mini_buffer_written + w → w ≤ 64
       → written p v w out
       ≡ outcome
-      (Emitted (holding (p.mini_buffer_written + w - 64) (v / 2 / 2 ^ (63 - p.mini_buffer_written))) 8)
+      (emitting (holding (p.mini_buffer_written + w - 64) (v / 2 / 2 ^ (63 - p.mini_buffer_written))) 8)
       (emit 8 (bit_or p.mini_buffer ((v * 2 ^ p.mini_buffer_written) % 2 ^ 64)) out)
   unfolding written
   written_word complete narrow =
@@ -131,8 +131,8 @@ module _ (p : BitPacker) (v w : ℕ) (out : List ℕ) (p-sound : Sound p) (fits 
       word_rest 64 b h v room p-sound.held ∙ sym (two_shifts v b p-sound.bits) in
       let bytes : bytes_of 8 sum ≡ bytes_of 8 (bit_or h ((v * 2 ^ b) % 2 ^ 64)) =
       sym (bytes_of_cut 8 sum) ∙ ap (bytes_of 8) (sym (word_sum 64 b h v room p-sound.held)) in
-      ap (λ q. outcome (Emitted (holding (b + w - 8 * (8 * q)) (sum / 256 ^ (8 * q))) (8 * q)) (emit (8 * q) sum out)) one
-      ∙ ap₂ (λ x l. outcome (Emitted (holding (b + w - 64) x) 8) (l ++ drop 8 out)) rest bytes
+      ap (λ q. outcome (emitting (holding (b + w - 8 * (8 * q)) (sum / 256 ^ (8 * q))) (8 * q)) (emit (8 * q) sum out)) one
+      ∙ ap₂ (λ x l. outcome (emitting (holding (b + w - 64) x) 8) (l ++ drop 8 out)) rest bytes
 
 -- past the first three checks only the room is left to judge
 module _ (p : BitPacker) (v w : ℕ) (out : List ℕ) (whole : damaged_packer p ≡ false) (narrow : w ≤ 64) (fits : leb (2 ^ w) v ≡ false) where
@@ -147,7 +147,7 @@ module _ (p : BitPacker) (v w : ℕ) (out : List ℕ) (whole : damaged_packer p 
 -- the same of a flush
 module _ (p : BitPacker) (out : List ℕ) (whole : damaged_packer p ≡ false) where
   pub flush_room : bytes_for p.mini_buffer_written ≤ length out
-      → flush_of p out ≡ outcome (Emitted fresh (bytes_for p.mini_buffer_written)) (emit (bytes_for p.mini_buffer_written) p.mini_buffer out)
+      → flush_of p out ≡ outcome (emitting fresh (bytes_for p.mini_buffer_written)) (emit (bytes_for p.mini_buffer_written) p.mini_buffer out)
   unfolding flush_of
   flush_room room = simp (whole, le-ltb _ _ room)
 

@@ -1,6 +1,7 @@
 -- A whole run leaves exactly the stream's bytes. After the values ps, the packer has emitted `emitted_of ps` bytes, holds what is left of
 -- their stream's number above those (`held_of ps`), and the output begins with the number's bytes (`so_far ps`). One more value moves all
 -- three on by one (`write_more`), and a flush ends the stream (`flush_all`): a loop that packs has these three as its invariant.
+use Rattle.std.specs.Prelude.{Ok}
 use mathlib.Core.Path.{◌≡◌, refl, sym, ap, ap₂, ◌∙◌, subst}
 use mathlib.Core.List.{List, [], ◌∷◌, ◌++◌, append_assoc, append-nil}
 use mathlib.Core.Bool.{false}
@@ -18,8 +19,7 @@ use Rattle.bit_rule.proofs.Stream.{stream_number-nil, stream_number-cons, stream
 use Rattle.bit_rule.proofs.Place.{fit_append}
 use Rattle.refusal.specs.declared.Refusal.TheVariants.{NoRoom}
 use Rattle.bitpacker.specs.declared.BitPacker.{BitPacker}
-use Rattle.bitpacker.specs.declared.Written.TheVariants.{Emitted}
-use Rattle.bitpacker.specs.Packer.{Outcome, outcome, refused, holding, fresh, emit, complete_bytes, damaged_packer, written, write_of, flush_of}
+use Rattle.bitpacker.specs.Packer.{Outcome, outcome, refused, holding, fresh, emit, complete_bytes, damaged_packer, written, write_of, flush_of, emitting}
 use Rattle.bitpacker.specs.Run.{after_part, go_on, run_from, pack_of}
 use Rattle.bitpacker.proofs.Laws.{write_room, write_no_room, flush_room, flush_no_room}
 
@@ -150,7 +150,7 @@ module _ (ps : List Piece) (x : Piece) where
 
   written_then : (out : List ℕ)
       → written (held_of ps) x.value x.width (drop (emitted_of ps) (so_far ps out))
-      ≡ outcome (Emitted (held_of (ps then x)) (emitted_of (ps then x) - emitted_of ps)) (drop (emitted_of ps) (so_far (ps then x) out))
+      ≡ outcome (emitting (held_of (ps then x)) (emitted_of (ps then x) - emitted_of ps)) (drop (emitted_of ps) (so_far (ps then x) out))
   unfolding written completes
   written_then out =
       let e = emitted_of ps in
@@ -165,14 +165,14 @@ module _ (ps : List Piece) (x : Piece) where
       ap (emit completes above_bytes) (part_so_far ps out)
       ∙ sym (drop_at old (emit completes above_bytes (drop e out)) e (length-bytes_of e (stream_number ps)))
       ∙ ap (drop e) (sym (so_far_then out)) in
-      ap (λ sum. outcome (Emitted (holding (rest + x.width - 8 * completes) (sum / 256 ^ completes)) completes) (emit completes sum part)) sum_then
-      ∙ ap₂ (λ b q. outcome (Emitted (holding b q) completes) (emit completes above_bytes part)) left quotient_then
-      ∙ ap₂ (λ k l. outcome (Emitted (held_of (ps then x)) k) l) more bytes
+      ap (λ sum. outcome (emitting (holding (rest + x.width - 8 * completes) (sum / 256 ^ completes)) completes) (emit completes sum part)) sum_then
+      ∙ ap₂ (λ b q. outcome (emitting (holding b q) completes) (emit completes above_bytes part)) left quotient_then
+      ∙ ap₂ (λ k l. outcome (emitting (held_of (ps then x)) k) l) more bytes
 
   -- a write with room moves the run on by one value
   pub write_more : (out : List ℕ) → Fit (ps then x) → x.width ≤ 64 → emitted_of (ps then x) ≤ length out
       → write_of (held_of ps) x.value x.width (drop (emitted_of ps) (so_far ps out))
-      ≡ outcome (Emitted (held_of (ps then x)) (emitted_of (ps then x) - emitted_of ps)) (drop (emitted_of ps) (so_far (ps then x) out))
+      ≡ outcome (emitting (held_of (ps then x)) (emitted_of (ps then x) - emitted_of ps)) (drop (emitted_of ps) (so_far (ps then x) out))
   unfolding completes
   write_more out fit narrow room =
       let fits = fit_append ps (x ∷ []) fit in
@@ -214,7 +214,7 @@ module _ (ps : List Piece) (out : List ℕ) (fit : Fit ps) where
 
   pub flush_all : bytes_for (total_bits ps) ≤ length out
       → flush_of (held_of ps) (drop (emitted_of ps) (so_far ps out))
-      ≡ outcome (Emitted fresh (bytes_for (total_bits ps) - emitted_of ps)) (drop (emitted_of ps) (packed ps out))
+      ≡ outcome (emitting fresh (bytes_for (total_bits ps) - emitted_of ps)) (drop (emitted_of ps) (packed ps out))
   flush_all room =
       let e = emitted_of ps in
       let m = bytes_for (total_bits ps - 8 * e) in
@@ -224,7 +224,7 @@ module _ (ps : List Piece) (out : List ℕ) (fit : Fit ps) where
       ∙ sym (drop_at (bytes_of e (stream_number ps)) (emit m q (drop e out)) e (length-bytes_of e (stream_number ps)))
       ∙ ap (drop e) (sym bytes_ends) in
       flush_room (held_of ps) (drop e (so_far ps out)) (held_sound ps fit) (omega (arith, length_part ps out, ends))
-      ∙ ap₂ (λ k l. outcome (Emitted fresh k) l) (omega (arith, ends)) bytes
+      ∙ ap₂ (λ k l. outcome (emitting fresh k) l) (omega (arith, ends)) bytes
 
   pub flush_stuck : emitted_of ps ≤ length out → length out < bytes_for (total_bits ps)
       → flush_of (held_of ps) (drop (emitted_of ps) (so_far ps out)) ≡ refused NoRoom (drop (emitted_of ps) (so_far ps out))
@@ -287,14 +287,14 @@ from_fresh ps out = ap (λ p. run_from ps p 0 out) (sym held_nil)
 
 -- Writing values that fit and flushing leaves exactly the stream's bytes; bytes after it stay.
 pub pack_all : (ps : List Piece) (out : List ℕ) → Fit ps → Narrow ps → bytes_for (total_bits ps) ≤ length out
-    → pack_of ps out ≡ outcome (Emitted fresh (bytes_for (total_bits ps))) (packed ps out)
+    → pack_of ps out ≡ outcome (emitting fresh (bytes_for (total_bits ps))) (packed ps out)
 unfolding run_from
 pack_all ps out fit narrow room =
     from_fresh ps out
     ∙ ap (λ l. run_from l (held_of []) (emitted_of []) (so_far [] out)) (sym (append-nil ps))
     ∙ run_more ps [] [] out fit narrow (omega arith)
-    ∙ ap (after ps out (λ p n l. outcome (Emitted p n) l)) (flush_all ps out fit room)
-    ∙ ap₂ (λ k l. outcome (Emitted fresh k) l) (omega arith) (part_packed ps out fit)
+    ∙ ap (after ps out (λ p n l. outcome (emitting p n) l)) (flush_all ps out fit room)
+    ∙ ap₂ (λ k l. outcome (emitting fresh k) l) (omega arith) (part_packed ps out fit)
 
 -- Where room is short, the refusal comes at the first write that has to emit without room, here x. What the values before it completed
 -- stands in the output.
@@ -317,5 +317,5 @@ flush_short ps out fit narrow before short =
     from_fresh ps out
     ∙ ap (λ l. run_from l (held_of []) (emitted_of []) (so_far [] out)) (sym (append-nil ps))
     ∙ run_more ps [] [] out fit narrow before
-    ∙ ap (after ps out (λ p n l. outcome (Emitted p n) l)) (flush_stuck ps out fit before short)
-    ∙ stopped ps out (λ p n l. outcome (Emitted p n) l)
+    ∙ ap (after ps out (λ p n l. outcome (emitting p n) l)) (flush_stuck ps out fit before short)
+    ∙ stopped ps out (λ p n l. outcome (emitting p n) l)

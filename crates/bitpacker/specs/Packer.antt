@@ -2,7 +2,7 @@
 -- part it is given, and says how many bytes it emitted (0 or 8). A flush emits ceil(held / 8) bytes there; in both, later bytes of the part
 -- stay. After a flush the next value starts on a byte boundary. Flushing with nothing held emits nothing."
 -- "Order of checks: write: 8, 1, 2, 4. Flush of a packer: 8, 4." "A refusal returns its number and nothing else; buffers and packer stay."
-use Rattle.std.specs.Prelude.{ℕ, ◌+◌, ◌-◌, ◌*◌, ◌/◌, ◌^◌, Bool, not, ◌||◌, List, [], ◌∷◌, ◌++◌, leb, ltb, length, drop}
+use Rattle.std.specs.Prelude.{ℕ, ◌+◌, ◌-◌, ◌*◌, ◌/◌, ◌^◌, Bool, not, ◌||◌, List, [], ◌∷◌, ◌++◌, leb, ltb, length, drop, Ok, Err, Result}
 use Rattle.bit_rule.specs.Bytes.{bytes_of, bytes_for}
 use Rattle.bit_rule.specs.Width.{packer_width}
 use Rattle.refusal.specs.declared.Refusal.{Refusal}
@@ -10,19 +10,22 @@ use Rattle.refusal.specs.declared.Refusal.TheVariants.{BadWidth, TooWide, NoRoom
 use Rattle.refusal.specs.First.{check, first_that_holds}
 use Rattle.bitpacker.specs.declared.BitPacker.{BitPacker}
 use Rattle.bitpacker.specs.declared.Written.{Written}
-use Rattle.bitpacker.specs.declared.Written.TheVariants.{Emitted, Refused}
 
 -- What a call answers, and what the lent output then holds.
 pub record Outcome : Type 0 where
-  pub answer : Written
+  pub answer : Result Written Refusal
   pub output : List ℕ
 
-abbrev pub outcome : Written → List ℕ → Outcome
+abbrev pub outcome : Result Written Refusal → List ℕ → Outcome
 outcome r out = record { answer = r; output = out }
+
+-- The packer goes on as it then is, and so many bytes were emitted.
+abbrev pub emitting : BitPacker → ℕ → Result Written Refusal
+emitting p n = Ok (record { packer = p; emitted = n })
 
 -- A refusal leaves the output as it came.
 abbrev pub refused : Refusal → List ℕ → Outcome
-refused why out = outcome (Refused why) out
+refused why out = outcome (Err why) out
 
 -- The packer that holds so many bits, the number of which is given.
 abbrev pub holding : ℕ → ℕ → BitPacker
@@ -49,7 +52,7 @@ written p v w out =
     let bits = p.mini_buffer_written + w in
     let sum = p.mini_buffer + v * 2 ^ p.mini_buffer_written in
     let n = complete_bytes bits in
-    outcome (Emitted (holding (bits - 8 * n) (sum / 256 ^ n)) n) (emit n sum out)
+    outcome (emitting (holding (bits - 8 * n) (sum / 256 ^ n)) n) (emit n sum out)
 
 unfoldable pub write_of : BitPacker → ℕ → ℕ → List ℕ → Outcome
 write_of p v w out =
@@ -65,4 +68,4 @@ unfoldable pub flush_of : BitPacker → List ℕ → Outcome
 flush_of p out =
     let n = bytes_for p.mini_buffer_written in
     first_that_holds (check (damaged_packer p) (refused Damaged out) ∷ check (ltb (length out) n) (refused NoRoom out) ∷ [])
-    (outcome (Emitted fresh n) (emit n p.mini_buffer out))
+    (outcome (emitting fresh n) (emit n p.mini_buffer out))

@@ -14,11 +14,11 @@ pub struct BitPacker {
     pub mini_buffer_written: usize,
 }
 
-// The packer as it goes on and how many bytes were emitted, or why not.
+// The packer as it goes on, and how many bytes were emitted.
 #[derive(Clone, Copy)]
-pub enum Written {
-    Emitted(BitPacker, usize),
-    Refused(Refusal),
+pub struct Written {
+    pub packer: BitPacker,
+    pub emitted: usize,
 }
 
 // Whether x has a bit at `bits` or above.
@@ -82,64 +82,67 @@ impl BitPacker {
 
     // Puts a value of num_bits bits above those held. Once 64 are complete, eight bytes go to the start
     // of the output.
-    pub fn write(self, val: u64, num_bits: u8, output: &mut [u8]) -> Written
+    pub fn write(self, val: u64, num_bits: u8, output: &mut [u8]) -> Result<Written, Refusal>
         ensures { outcome result output.new ≡ write_of self val num_bits output.old }
     {
         if self.damaged() {
-            return Written::Refused(Refusal::Damaged);
+            return Err(Refusal::Damaged);
         }
         if 64 < num_bits {
-            return Written::Refused(Refusal::BadWidth);
+            return Err(Refusal::BadWidth);
         }
         let width = num_bits as usize;
         if exceeds(val, width) {
-            return Written::Refused(Refusal::TooWide);
+            return Err(Refusal::TooWide);
         }
         let held = self.mini_buffer;
         let held_bits = self.mini_buffer_written;
         let bits = held_bits + width;
         let word = held | val << held_bits;
         if bits < 64 {
-            return Written::Emitted(
-                BitPacker {
+            return Ok(Written {
+                packer: BitPacker {
                     mini_buffer: word,
                     mini_buffer_written: bits,
                 },
-                0,
-            );
+                emitted: 0,
+            });
         }
         if output.len() < 8 {
-            return Written::Refused(Refusal::NoRoom);
+            return Err(Refusal::NoRoom);
         }
         store_word(word, output);
-        Written::Emitted(
-            BitPacker {
+        Ok(Written {
+            packer: BitPacker {
                 mini_buffer: val >> 1 >> (63 - held_bits),
                 mini_buffer_written: bits - 64,
             },
-            8,
-        )
+            emitted: 8,
+        })
     }
 
     // Emits what is held, the last byte filled up with zero bits, and holds nothing then.
-    pub fn flush(mut self, output: &mut [u8]) -> Written
+    pub fn flush(mut self, output: &mut [u8]) -> Result<Written, Refusal>
         ensures { outcome result output.new ≡ flush_of self output.old }
     {
         if self.damaged() {
-            return Written::Refused(Refusal::Damaged);
+            return Err(Refusal::Damaged);
         }
         let n = (self.mini_buffer_written + 7) / 8;
         if output.len() < n {
-            return Written::Refused(Refusal::NoRoom);
+            return Err(Refusal::NoRoom);
         }
         store_bytes(self.mini_buffer, n, output);
         self.mini_buffer = 0;
         self.mini_buffer_written = 0;
-        Written::Emitted(self, n)
+        Ok(Written {
+            packer: self,
+            emitted: n,
+        })
     }
 
     // The same as a flush, as in the Rust.
-    pub fn close(self, output: &mut [u8]) -> Written
+    pub fn close(self, output: &mut [u8]) -> Result<Written, Refusal>
         ensures { outcome result output.new ≡ flush_of self output.old }
     {
         self.flush(output)

@@ -1,4 +1,5 @@
 -- The search in batches: what the filter leaves of a batch are its matching ids, and the ids of one stretch after the other are those of both.
+use Rattle.std.specs.Prelude.{Ok}
 use mathlib.Core.Path.{◌≡◌, sym, ap, ap₂, ◌∙◌, subst}
 use mathlib.Core.List.{List, [], ◌++◌}
 use Prim.Native.Nat.{ℕ, ◌+◌, ◌-◌, ◌*◌, ◌/◌, ◌%◌, ◌^◌, ◌≤◌, ◌<◌, min}
@@ -15,7 +16,6 @@ use Rattle.bit_rule.proofs.Search.{matching_le, matching_append, none_above, hi_
 use Rattle.bitunpacker.proofs.Laws.{eights}
 use Rattle.filter_vec.specs.Filter.{filtered, filter_of}
 use Rattle.bitunpacker.specs.declared.BitUnpacker.{BitUnpacker}
-use Rattle.bitunpacker.specs.declared.Found.TheVariants.{Ids}
 use Rattle.bitunpacker.specs.Parts.{InData, Kept}
 use Rattle.bitunpacker.specs.Unpacker.{search, ids_of}
 
@@ -172,6 +172,6 @@ highway_goes_on {w} {lo} {hi} {end} {on} {bs} {at} here more room batch same =
 
 -- ---- the answer
 
-pub kept_answer : {ids before : List ℕ} {r : ℕ} {after : List ℕ} → Kept 0 ids before r after → search (Ids r) after ≡ search (Ids (length ids)) (at_start ids before)
+pub kept_answer : {ids before : List ℕ} {r : ℕ} {after : List ℕ} → Kept 0 ids before r after → search (Ok r) after ≡ search (Ok (length ids)) (at_start ids before)
 kept_answer {ids} {before} kept =
-    ap₂ (λ n l. search (Ids n) l) (kept.count ∙ zero-add (length ids)) (kept.pasted ∙ paste_first ids before)
+    ap₂ (λ n l. search (Ok n) l) (kept.count ∙ zero-add (length ids)) (kept.pasted ∙ paste_first ids before)

@@ -22,34 +22,6 @@ pub struct BitUnpacker {
     pub mask: u64,
 }
 
-// A new unpacker, or why there is none.
-#[derive(Clone, Copy)]
-pub enum Made {
-    Unpacker(BitUnpacker),
-    Refused(Refusal),
-}
-
-// One value, or why it was not read.
-#[derive(Clone, Copy)]
-pub enum Got {
-    Value(u64),
-    Refused(Refusal),
-}
-
-// The output was filled, or why not.
-#[derive(Clone, Copy)]
-pub enum Filled {
-    Done,
-    Refused(Refusal),
-}
-
-// How many ids were found, or why none were looked for.
-#[derive(Clone, Copy)]
-pub enum Found {
-    Ids(usize),
-    Refused(Refusal),
-}
-
 impl BitUnpacker {
     // The legal widths: a value of up to 56 bits lies within eight bytes wherever it starts, and one of
     // 64 starts on a byte.
@@ -68,15 +40,15 @@ impl BitUnpacker {
     }
 
     // An unpacker for a column of num_bits bits a value.
-    pub fn new(num_bits: u8) -> Made
+    pub fn new(num_bits: u8) -> Result<BitUnpacker, Refusal>
         ensures { result ≡ new_of num_bits }
     {
         let width = num_bits as usize;
         if !BitUnpacker::is_legal(width) {
-            return Made::Refused(Refusal::BadWidth);
+            return Err(Refusal::BadWidth);
         }
         let mask = mask_of(width);
-        Made::Unpacker(BitUnpacker {
+        Ok(BitUnpacker {
             num_bits: width,
             mask,
         })
@@ -105,26 +77,26 @@ impl BitUnpacker {
     }
 
     // The value at an index of the data.
-    pub fn get(self, idx: u32, data: &[u8]) -> Got
+    pub fn get(self, idx: u32, data: &[u8]) -> Result<u64, Refusal>
         ensures { result ≡ get_of self idx «data».now }
     {
         if self.has_bad_width() {
-            return Got::Refused(Refusal::BadWidth);
+            return Err(Refusal::BadWidth);
         }
         if self.has_damaged_mask() {
-            return Got::Refused(Refusal::Damaged);
+            return Err(Refusal::Damaged);
         }
         // One index of 32 bits: no product or sum can wrap. A value lies within the eight bytes that it starts in.
         let width = self.num_bits;
         let bit = idx as usize * width;
         let at = bit / 8;
         if at + 8 <= data.len() {
-            return Got::Value(word_at(data, at, bit % 8, self.mask));
+            return Ok(word_at(data, at, bit % 8, self.mask));
         }
         if data.len() < (bit + width + 7) / 8 {
-            return Got::Refused(Refusal::OutOfData);
+            return Err(Refusal::OutOfData);
         }
-        Got::Value(tail_at(data, at, bit % 8, self.mask))
+        Ok(tail_at(data, at, bit % 8, self.mask))
     }
 
     // Fills the output with the values from an index on, all of which lie in the data.
@@ -148,25 +120,25 @@ impl BitUnpacker {
     }
 
     // Fills the output with the values from an index on.
-    pub fn get_range(self, start_idx: u32, data: &[u8], output: &mut [u64]) -> Filled
+    pub fn get_range(self, start_idx: u32, data: &[u8], output: &mut [u64]) -> Result<(), Refusal>
         ensures { range result output.new ≡ get_range_of self start_idx «data».now output.old }
     {
         if self.has_bad_width() {
-            return Filled::Refused(Refusal::BadWidth);
+            return Err(Refusal::BadWidth);
         }
         if self.has_damaged_mask() {
-            return Filled::Refused(Refusal::Damaged);
+            return Err(Refusal::Damaged);
         }
         if output.len() == 0 {
-            return Filled::Done;
+            return Ok(());
         }
         let width = self.num_bits;
         let start = start_idx as usize;
         if data.len() < column_bytes(start + output.len(), width) {
-            return Filled::Refused(Refusal::OutOfData);
+            return Err(Refusal::OutOfData);
         }
         self.fill(start, data, output);
-        Filled::Done
+        Ok(())
     }
 
     // The ids from start to before end whose value lies in lo..=hi, ascending, at the start of the
@@ -179,25 +151,25 @@ impl BitUnpacker {
         end: u32,
         data: &[u8],
         positions: &mut [u32],
-    ) -> Found
+    ) -> Result<usize, Refusal>
         ensures { search result positions.new ≡ search_of self lo hi start end «data».now positions.old }
     {
         if self.has_bad_width() {
-            return Found::Refused(Refusal::BadWidth);
+            return Err(Refusal::BadWidth);
         }
         if self.has_damaged_mask() {
-            return Found::Refused(Refusal::Damaged);
+            return Err(Refusal::Damaged);
         }
         if end <= start {
-            return Found::Ids(0);
+            return Ok(0);
         }
         let width = self.num_bits;
         if data.len() < column_bytes(end as usize, width) {
-            return Found::Refused(Refusal::OutOfData);
+            return Err(Refusal::OutOfData);
         }
         if positions.len() < (end - start) as usize {
-            return Found::Refused(Refusal::NoRoom);
+            return Err(Refusal::NoRoom);
         }
-        Found::Ids(find(self, lo, hi, start, end, data, positions))
+        Ok(find(self, lo, hi, start, end, data, positions))
     }
 }

@@ -1,4 +1,5 @@
 -- Packing a block value by value: where a run of writes stands after the first i values (`Packing`), and that one more value moves it on.
+use Rattle.std.specs.Prelude.{Ok, Err, Result}
 use Rattle.std.proofs.Common.{◌≡◌, ℕ, ◌+◌, ◌-◌, ◌*◌, ◌<◌, ◌≤◌, List, [], ◌∷◌, ◌++◌, length, get_or, take, drop, sym, refl, ap, ◌∙◌, subst, ap₂, zero-le, le_refl, mul-le-mul_right, add-one, arith, take-append-drop, length-take-le, take_all, take-suc}
 use lib.ListN.{length-map}
 use lib.Seq.{take-length}
@@ -11,8 +12,7 @@ use Rattle.bit_rule.proofs.Parts.{rest_from, rest_from_is, put_rest}
 use Rattle.refusal.specs.declared.Refusal.{Refusal}
 use Rattle.bitpacker.specs.declared.BitPacker.{BitPacker}
 use Rattle.bitpacker.specs.declared.Written.{Written}
-use Rattle.bitpacker.specs.declared.Written.TheVariants.{Emitted, Refused}
-use Rattle.bitpacker.specs.Packer.{outcome, fresh, write_of, flush_of}
+use Rattle.bitpacker.specs.Packer.{outcome, fresh, write_of, flush_of, emitting}
 use Rattle.bitpacker.proofs.Run.{emitted_of, held_of, so_far, packed, ◌then◌, held_nil, write_more, part_then, flush_all, part_packed}
 use Rattle.block.specs.Block.{differences, bytes_of_block}
 
@@ -83,22 +83,24 @@ module _ (base w : ℕ) (vs out₀ : List ℕ) (fit : Fit (pieces base w vs)) (n
       next_room = subst (λ l. emitted_of l ≤ length out₀) next_pieces (emitted_room base w vs (i + 1) (length out₀) (omega arith) room)
 
       -- what the write answers and leaves
-      pub write_is : (r : Written) (ys : List ℕ) → outcome r ys ≡ write_of packer (get_or vs i 0 - base) w (rest_from at out)
-          → outcome r ys ≡ outcome (Emitted (held_of (ps then x)) (emitted_of (ps then x) - emitted_of ps)) (drop (emitted_of ps) (so_far (ps then x) out₀))
+      pub write_is : (r : Result Written Refusal) (ys : List ℕ) → outcome r ys ≡ write_of packer (get_or vs i 0 - base) w (rest_from at out)
+          → outcome r ys ≡ outcome (emitting (held_of (ps then x)) (emitted_of (ps then x) - emitted_of ps)) (drop (emitted_of ps) (so_far (ps then x) out₀))
       write_is r ys ensured =
           ensured
           ∙ ap₂ (λ p l. write_of p (get_or vs i 0 - base) w l) here.holds part
           ∙ write_more ps x out₀ (subst Fit next_pieces (fit_take base w vs (i + 1) fit)) narrow next_room
 
-      pub packing_goes_on : (r : Written) (ys : List ℕ) → outcome r ys ≡ write_of packer (get_or vs i 0 - base) w (rest_from at out)
-          → length ys ≡ length (rest_from at out) → (next : BitPacker) (n : ℕ) → r ≡ Emitted next n
+      pub packing_goes_on : (r : Result Written Refusal) (ys : List ℕ) → outcome r ys ≡ write_of packer (get_or vs i 0 - base) w (rest_from at out)
+          → length ys ≡ length (rest_from at out) → (next : BitPacker) (n : ℕ) → r ≡ emitting next n
           → Packing base w vs out₀ (i + 1) next (at + n) (put_mid at (length out - at) out ys)
       packing_goes_on r ys ensured kept next n emitted =
           let is = write_is r ys ensured in
-          let answer : Emitted next n ≡ Emitted (held_of (ps then x)) (emitted_of (ps then x) - emitted_of ps) = sym emitted ∙ ap (λ o. o.answer) is in
+          let answer : emitting next n ≡ emitting (held_of (ps then x)) (emitted_of (ps then x) - emitted_of ps) = sym emitted ∙ ap (λ o. o.answer) is in
           let grows : emitted_of ps ≤ emitted_of (ps then x) = omega (arith, total_bits-append ps (x ∷ [])) in
-          let held : next ≡ held_of (ps then x) = cc in
-          let count : n ≡ emitted_of (ps then x) - emitted_of ps = cc in
+          let both :
+          ◌≡◌ {A = Written} (record { packer = next; emitted = n }) (record { packer = held_of (ps then x); emitted = emitted_of (ps then x) - emitted_of ps }) = cc in
+          let held : next ≡ held_of (ps then x) = ap (λ w. w.packer) both in
+          let count : n ≡ emitted_of (ps then x) - emitted_of ps = ap (λ w. w.emitted) both in
           record {
             within = omega arith;
             holds = held ∙ ap held_of (sym next_pieces);
@@ -112,15 +114,15 @@ module _ (base w : ℕ) (vs out₀ : List ℕ) (fit : Fit (pieces base w vs)) (n
           }
 
       -- it is never refused
-      pub packing_not_refused : (r : Written) (ys : List ℕ) → outcome r ys ≡ write_of packer (get_or vs i 0 - base) w (rest_from at out)
-          → (why : Refusal) → r ≡ Refused why → ⊥
+      pub packing_not_refused : (r : Result Written Refusal) (ys : List ℕ) → outcome r ys ≡ write_of packer (get_or vs i 0 - base) w (rest_from at out)
+          → (why : Refusal) → r ≡ Err why → ⊥
       packing_not_refused r ys ensured why refused =
           let answer = sym refused ∙ ap (λ o. o.answer) (write_is r ys ensured) in
           let never : ◌≡◌ {A = ℕ} 0 1 = cc in
           omega arith
 
     -- past the last value a flush ends the stream
-    pub packing_ends : length vs ≤ i → (r : Written) (ys : List ℕ) → outcome r ys ≡ flush_of packer (rest_from at out)
+    pub packing_ends : length vs ≤ i → (r : Result Written Refusal) (ys : List ℕ) → outcome r ys ≡ flush_of packer (rest_from at out)
         → put_mid at (length out - at) out ys ≡ packed (pieces base w vs) out₀
     packing_ends all r ys ensured =
         let whole : take i vs ≡ vs = take_all i vs all in

@@ -1,17 +1,13 @@
 -- What reading a block comes to: a range's values with the base added, where the width is legal, and the base is added to one value after
 -- the other. By cases on the checks, and by induction on the values.
+use Rattle.std.specs.Prelude.{Ok, Err, Result}
 use Rattle.std.proofs.Common.{◌≡◌, ℕ, zero, suc, ◌+◌, Bool, true, false, cond, not, eqb, List, [], ◌∷◌, ◌++◌, map, length, get_or, take, drop, set, sym, refl, ap, ◌∙◌, subst, add-one, arith, eq-eqb, eqb-true}
 use Rattle.bit_rule.specs.Place.{value_at, lies_in, values_from}
 use Rattle.bit_rule.specs.Width.{legal_width}
 use Rattle.refusal.specs.declared.Refusal.{Refusal}
 use Rattle.refusal.specs.declared.Refusal.TheVariants.{BadWidth, OutOfData}
+use Rattle.refusal.specs.Done.{done}
 use Rattle.bitunpacker.specs.declared.BitUnpacker.{BitUnpacker}
-use Rattle.bitunpacker.specs.declared.Made.{Made}
-use Rattle.bitunpacker.specs.declared.Made.TheVariants.{Unpacker, Refused as NotMade}
-use Rattle.bitunpacker.specs.declared.Got.{Got}
-use Rattle.bitunpacker.specs.declared.Got.TheVariants.{Value, Refused as NotGot}
-use Rattle.bitunpacker.specs.declared.Filled.{Filled}
-use Rattle.bitunpacker.specs.declared.Filled.TheVariants.{Done, Refused as NotFilled}
 use Rattle.bitunpacker.specs.Unpacker.{Range, range, mask_of, unpacker_of, new_of, out_of_data, get_of, get_range_of}
 use Rattle.block.specs.Block.{above_base}
 use Rattle.block.specs.Calls.{read_of, read_one_of}
@@ -44,23 +40,23 @@ map_empty f (v ∷ vs) empty = absurd (omega (arith, eqb-true (suc (length vs)) 
 -- ---- the unpacker of a width
 
 -- what an answer of `new` says of the width: there is an unpacker exactly where it is legal
-abbrev pub NewSays : ℕ → Made → Type 0
-NewSays w (Unpacker u) = (legal_width w ≡ true) × (u ≡ unpacker_of w)
-NewSays w (NotMade why) = (legal_width w ≡ false) × (why ≡ BadWidth)
+abbrev pub NewSays : ℕ → Result BitUnpacker Refusal → Type 0
+NewSays w (Ok u) = (legal_width w ≡ true) × (u ≡ unpacker_of w)
+NewSays w (Err why) = (legal_width w ≡ false) × (why ≡ BadWidth)
 
-pub new_says : (w : ℕ) (made : Made) → made ≡ new_of w → NewSays w made
+pub new_says : (w : ℕ) (made : Result BitUnpacker Refusal) → made ≡ new_of w → NewSays w made
 unfolding new_of
 new_says w made is = subst (NewSays w) (sym is) (by_width (legal_width w) refl)
   where
-    by_width : (legal : Bool) → legal_width w ≡ legal → NewSays w (cond (not legal) (NotMade BadWidth) (Unpacker (unpacker_of w)))
+    by_width : (legal : Bool) → legal_width w ≡ legal → NewSays w (cond (not legal) (Err BadWidth) (Ok (unpacker_of w)))
     by_width true legal = (legal, refl)
     by_width false illegal = (illegal, refl)
 
 -- ---- the whole call
 
-abbrev raised_where : ℕ → Filled → List ℕ → Range
-raised_where base Done out = range Done (map (above_base base) out)
-raised_where base (NotFilled why) out = range (NotFilled why) out
+abbrev raised_where : ℕ → Result (Unit {0}) Refusal → List ℕ → Range
+raised_where base (Ok _) out = range done (map (above_base base) out)
+raised_where base (Err why) out = range (Err why) out
 
 -- what a range read answers and leaves, with the base added where it filled the output
 abbrev pub raised : ℕ → Range → Range
@@ -78,47 +74,47 @@ module _ (base w first : ℕ) (bytes out : List ℕ) where
       values = values_from w first (length out) bytes
 
       by_checks : (empty short : Bool) → (empty ≡ true → map (above_base base) out ≡ out)
-          → raised base (cond empty (range Done out) (cond short (range (NotFilled OutOfData) out) (range Done values)))
-          ≡ cond empty (range Done out) (cond short (range (NotFilled OutOfData) out) (range Done (map (above_base base) values)))
-      by_checks true short same = ap (range Done) (same refl)
+          → raised base (cond empty (range done out) (cond short (range (Err OutOfData) out) (range done values)))
+          ≡ cond empty (range done out) (cond short (range (Err OutOfData) out) (range done (map (above_base base) values)))
+      by_checks true short same = ap (range done) (same refl)
       by_checks false true same = refl
       by_checks false false same = refl
 
   -- by what `new` answers
-  pub read_made : (u : BitUnpacker) → Unpacker u ≡ new_of w → (got : Range) → got ≡ get_range_of u first bytes out → raised base got ≡ read_of base w first bytes out
+  pub read_made : (u : BitUnpacker) → Ok u ≡ new_of w → (got : Range) → got ≡ get_range_of u first bytes out → raised base got ≡ read_of base w first bytes out
   read_made u made got is =
-      let says = new_says w (Unpacker u) made in
+      let says = new_says w (Ok u) made in
       ap (raised base) (is ∙ ap (λ v. get_range_of v first bytes out) says.1) ∙ read_legal says.0
 
-  pub read_not_made : (why : Refusal) → NotMade why ≡ new_of w → range (NotFilled why) out ≡ read_of base w first bytes out
+  pub read_not_made : (why : Refusal) → Err why ≡ new_of w → range (Err why) out ≡ read_of base w first bytes out
   unfolding read_of
   read_not_made why not_made =
-      let says = new_says w (NotMade why) not_made in
-      simp says.0 (ap (λ r. range (NotFilled r) out) says.1)
+      let says = new_says w (Err why) not_made in
+      simp says.0 (ap (λ r. range (Err r) out) says.1)
 
 -- ---- one value
 
-abbrev pub raised_value : ℕ → Got → Got
-raised_value base (Value v) = Value (above_base base v)
-raised_value base (NotGot why) = NotGot why
+abbrev pub raised_value : ℕ → Result ℕ Refusal → Result ℕ Refusal
+raised_value base (Ok v) = Ok (above_base base v)
+raised_value base (Err why) = Err why
 
 module _ (base w place : ℕ) (bytes : List ℕ) where
   -- as for a range: a legal width's own unpacker passes the first two checks
-  pub read_one_made : (u : BitUnpacker) → Unpacker u ≡ new_of w → (got : Got) → got ≡ get_of u place bytes → raised_value base got ≡ read_one_of base w place bytes
+  pub read_one_made : (u : BitUnpacker) → Ok u ≡ new_of w → (got : Result ℕ Refusal) → got ≡ get_of u place bytes → raised_value base got ≡ read_one_of base w place bytes
   unfolding get_of read_one_of
   read_one_made u made got is =
-      let says = new_says w (Unpacker u) made in
+      let says = new_says w (Ok u) made in
       ap (raised_value base) (is ∙ ap (λ v. get_of v place bytes) says.1)
       ∙ simp (says.0, eq-eqb (mask_of w) (mask_of w) refl) (by_check (lies_in w place (length bytes)))
     where
       by_check : (inside : Bool)
-          → raised_value base (cond (not inside) (NotGot OutOfData) (Value (value_at w place bytes)))
-          ≡ cond (not inside) (NotGot OutOfData) (Value (above_base base (value_at w place bytes)))
+          → raised_value base (cond (not inside) (Err OutOfData) (Ok (value_at w place bytes)))
+          ≡ cond (not inside) (Err OutOfData) (Ok (above_base base (value_at w place bytes)))
       by_check true = refl
       by_check false = refl
 
-  pub read_one_not_made : (why : Refusal) → NotMade why ≡ new_of w → NotGot why ≡ read_one_of base w place bytes
+  pub read_one_not_made : (why : Refusal) → Err why ≡ new_of w → Err why ≡ read_one_of base w place bytes
   unfolding read_one_of
   read_one_not_made why not_made =
-      let says = new_says w (NotMade why) not_made in
-      simp says.0 (ap NotGot says.1)
+      let says = new_says w (Err why) not_made in
+      simp says.0 (ap Err says.1)

@@ -1,5 +1,6 @@
 -- Sealing a block: its differences fit the width of its extent, the size is that of its packed bytes, and the bytes with eight zeros after
 -- them stand at the start of the part.
+use Rattle.std.specs.Prelude.{Ok, Err}
 use Rattle.std.proofs.Common.{◌≡◌, ℕ, suc, ◌+◌, ◌-◌, ◌*◌, ◌^◌, ◌<◌, ◌≤◌, cond, List, [], ◌∷◌, ◌++◌, length, get_or, drop, set, sym, refl, ap, ◌∙◌, subst, ap₂, append_assoc, zero-le, not-suc-le-zero, lt_of_le_of_lt, arith, length-append, length-drop, drop-drop, take_at, drop_at, le-ltb, lt-ltb, le-leb}
 use borrow.Author.Tests.{lt-leb}
 use lib.ListN.{length-map}
@@ -17,9 +18,8 @@ use Rattle.num_bits.specs.declared.MinMaxU64.TheVariants.{Nothing, Of}
 use Rattle.num_bits.proofs.Bounds.{minmax_extremes, minmax_bounds, minmax_nothing, lowest_le_highest}
 use Rattle.bitpacker.proofs.Run.{packed}
 use Rattle.refusal.specs.declared.Refusal.TheVariants.{NoRoom}
-use Rattle.block.specs.declared.Sealing.TheVariants.{Sealed, Refused}
 use Rattle.block.specs.Block.{or_zero, base_of, block_width, differences, bytes_of_block, block_size, block_bytes, eight_zeros}
-use Rattle.block.specs.Calls.{outcome, cleared_of, Extent, seal_of}
+use Rattle.block.specs.Calls.{outcome, cleared_of, Extent, seal_of, sealed_as}
 
 -- ---- the lowest and the highest
 
@@ -111,13 +111,13 @@ module _ (low high : ℕ) (vs bytes : List ℕ) (extent : Extent low high vs) (w
   unfolding block_size
   size_is = sized ∙ ap (bytes_of_block (length vs)) (width ∙ width_is low high vs extent)
 
-  pub seal_refused : length bytes < size + 8 → outcome (Refused NoRoom) bytes ≡ seal_of vs bytes
+  pub seal_refused : length bytes < size + 8 → outcome (Err NoRoom) bytes ≡ seal_of vs bytes
   unfolding seal_of
   seal_refused short = simp (lt-ltb (length bytes) (block_size vs + 8) (subst (λ n. length bytes < n + 8) size_is short))
 
   pub seal_answer : size + 8 ≤ length bytes → (middle last : List ℕ) → middle ≡ packed (of_width w (differences low vs)) bytes
       → last ≡ cleared_of (rest_from size middle)
-      → outcome (Sealed low w size) (put_mid size (length middle - size) middle last) ≡ seal_of vs bytes
+      → outcome (sealed_as low w size) (put_mid size (length middle - size) middle last) ≡ seal_of vs bytes
   unfolding seal_of block_bytes
   seal_answer room middle last packed-is cleared-is =
       let ps = of_width w (differences low vs) in
@@ -125,9 +125,9 @@ module _ (low high : ℕ) (vs bytes : List ℕ) (extent : Extent low high vs) (w
       total_bits-of_width w (differences low vs) ∙ ap (λ n. n * w) (length-map vs (λ v. v - low)) in
       let bytes_are : stream_bytes ps ≡ block_bytes vs =
       ap₂ (λ v b. stream_bytes (of_width v (differences b vs))) (width ∙ width_is low high vs extent) extent.lowest in
-      ap (λ l. outcome (Sealed low w size) (put_mid size (length middle - size) middle l)) cleared-is
-      ∙ ap (λ m. outcome (Sealed low w size) (put_mid size (length m - size) m (cleared_of (rest_from size m)))) packed-is
-      ∙ ap (outcome (Sealed low w size)) (sealed_bytes ps bytes size (sized ∙ ap bytes_for (sym bits)) room)
-      ∙ ap₂ (λ b l. outcome (Sealed b w size) (at_start (l ++ eight_zeros) bytes)) extent.lowest bytes_are
-      ∙ ap₂ (λ v n. outcome (Sealed (base_of vs) v n) (at_start (block_bytes vs ++ eight_zeros) bytes)) (width ∙ width_is low high vs extent) size_is
+      ap (λ l. outcome (sealed_as low w size) (put_mid size (length middle - size) middle l)) cleared-is
+      ∙ ap (λ m. outcome (sealed_as low w size) (put_mid size (length m - size) m (cleared_of (rest_from size m)))) packed-is
+      ∙ ap (outcome (sealed_as low w size)) (sealed_bytes ps bytes size (sized ∙ ap bytes_for (sym bits)) room)
+      ∙ ap₂ (λ b l. outcome (sealed_as b w size) (at_start (l ++ eight_zeros) bytes)) extent.lowest bytes_are
+      ∙ ap₂ (λ v n. outcome (sealed_as (base_of vs) v n) (at_start (block_bytes vs ++ eight_zeros) bytes)) (width ∙ width_is low high vs extent) size_is
       ∙ sym (simp (le-ltb (length bytes) (block_size vs + 8) (subst (λ n. n + 8 ≤ length bytes) size_is room)))

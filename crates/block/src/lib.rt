@@ -10,17 +10,18 @@ ghost use Rattle.bitunpacker.specs.Unpacker.{range};
 ghost use Rattle.block.specs.Block.{base_of, block_width, differences, bytes_of_block, eight_zeros, above_base};
 ghost use Rattle.block.specs.Calls.{outcome, cleared_of, Extent, seal_of, read_of, read_one_of};
 
-use bitpacker::{BitPacker, Written};
-use bitunpacker::{BitUnpacker, Filled, Got, Made};
+use bitpacker::BitPacker;
+use bitunpacker::BitUnpacker;
 use num_bits::{MinMaxU64, compute_num_bits, minmax_u64};
 use refusal::Refusal;
 use std::num::wrapping_add_u64;
 
-// Base, width and size of a block that was sealed, or why none was.
+// A block that was sealed: its lowest value, how many bits each difference to that takes, and how many bytes the block.
 #[derive(Clone, Copy)]
-pub enum Sealing {
-    Sealed(u64, usize, usize),
-    Refused(Refusal),
+pub struct Sealed {
+    pub base: u64,
+    pub width: usize,
+    pub size: usize,
 }
 
 // ceil(n*w/8), for every number of values that a slice can have.
@@ -43,17 +44,17 @@ fn pack(values: &[u64], base: u64, width: u8, output: &mut [u8])
     let mut i = 0;
     while i < values.len() {
         match packer.write(values[i] - base, width, &mut output[at..]) {
-            Written::Emitted(next, n) => {
-                packer = next;
-                at = at + n;
+            Ok(written) => {
+                packer = written.packer;
+                at = at + written.emitted;
             }
-            Written::Refused(_) => {
+            Err(_) => {
                 return;
             }
         }
         i += 1;
     }
-    packer.flush(&mut output[at..]);
+    let _ = packer.flush(&mut output[at..]);
 }
 
 // Eight zero bytes at the start of the output.
@@ -74,7 +75,12 @@ pub fn clear_eight(output: &mut [u8])
 }
 
 // Seals a block of some values whose lowest and highest are known.
-fn seal_between(values: &[u64], lowest: u64, highest: u64, bytes: &mut [u8]) -> Sealing
+fn seal_between(
+    values: &[u64],
+    lowest: u64,
+    highest: u64,
+    bytes: &mut [u8],
+) -> Result<Sealed, Refusal>
     requires { Extent lowest highest values.now }
     ensures { outcome result bytes.new ≡ seal_of values.now bytes.old }
 {
@@ -82,16 +88,20 @@ fn seal_between(values: &[u64], lowest: u64, highest: u64, bytes: &mut [u8]) -> 
     let width = num_bits as usize;
     let size = size_of(values.len(), width);
     if bytes.len() < size + 8 {
-        return Sealing::Refused(Refusal::NoRoom);
+        return Err(Refusal::NoRoom);
     }
     pack(values, lowest, num_bits, bytes);
     clear_eight(&mut bytes[size..]);
-    Sealing::Sealed(lowest, width, size)
+    Ok(Sealed {
+        base: lowest,
+        width,
+        size,
+    })
 }
 
 // Seals a block: base the lowest value, width that of the highest less the lowest, the differences
 // packed at the start of the bytes, and eight zero bytes after them.
-pub fn seal(values: &[u64], bytes: &mut [u8]) -> Sealing
+pub fn seal(values: &[u64], bytes: &mut [u8]) -> Result<Sealed, Refusal>
     ensures { outcome result bytes.new ≡ seal_of values.now bytes.old }
 {
     match minmax_u64(values) {
@@ -112,30 +122,36 @@ fn raise(base: u64, values: &mut [u64])
 }
 
 // Reads the values from place `first` on of a block that starts with the bytes.
-pub fn read(base: u64, width: u8, first: u32, bytes: &[u8], output: &mut [u64]) -> Filled
+pub fn read(
+    base: u64,
+    width: u8,
+    first: u32,
+    bytes: &[u8],
+    output: &mut [u64],
+) -> Result<(), Refusal>
     ensures { range result output.new ≡ read_of base width first bytes.now output.old }
 {
     match BitUnpacker::new(width) {
-        Made::Refused(why) => Filled::Refused(why),
-        Made::Unpacker(unpacker) => match unpacker.get_range(first, bytes, output) {
-            Filled::Refused(why) => Filled::Refused(why),
-            Filled::Done => {
+        Err(why) => Err(why),
+        Ok(unpacker) => match unpacker.get_range(first, bytes, output) {
+            Err(why) => Err(why),
+            Ok(()) => {
                 raise(base, output);
-                Filled::Done
+                Ok(())
             }
         },
     }
 }
 
 // Reads the value at one place of a block that starts with the bytes.
-pub fn read_one(base: u64, width: u8, place: u32, bytes: &[u8]) -> Got
+pub fn read_one(base: u64, width: u8, place: u32, bytes: &[u8]) -> Result<u64, Refusal>
     ensures { result ≡ read_one_of base width place bytes.now }
 {
     match BitUnpacker::new(width) {
-        Made::Refused(why) => Got::Refused(why),
-        Made::Unpacker(unpacker) => match unpacker.get(place, bytes) {
-            Got::Refused(why) => Got::Refused(why),
-            Got::Value(difference) => Got::Value(wrapping_add_u64(base, difference)),
+        Err(why) => Err(why),
+        Ok(unpacker) => match unpacker.get(place, bytes) {
+            Err(why) => Err(why),
+            Ok(difference) => Ok(wrapping_add_u64(base, difference)),
         },
     }
 }

@@ -1,4 +1,5 @@
 -- What the words of an entry come to, and where the places of a block lie that is not damaged.
+use Rattle.std.specs.Prelude.{Ok, Err}
 use Prim.Native.Nat.{ℕ, ◌+◌, ◌-◌, ◌*◌, ◌/◌, ◌%◌, ◌^◌, ◌≤◌, ◌<◌}
 use mathlib.Core.Path.{◌≡◌, refl, sym, ap, ◌∙◌}
 use mathlib.Core.Bool.{Bool, true, false, not, ◌&&◌, cond}
@@ -10,11 +11,9 @@ use lib.ListN.{length, get_or, drop, length-drop}
 use borrow.Author.Tests.{ltb-false, le-leb, not-false, eqb-true}
 use Rattle.bit_rule.proofs.Width.{legal_le}
 use Rattle.bit_rule.proofs.Parts.{rest_from, rest_from_is}
-use Rattle.bitunpacker.specs.declared.Got.TheVariants.{Value}
 use Rattle.block.specs.Calls.{read_one_of}
 use Rattle.blocked_bitpacker.proofs.Judged.{neither}
 use Rattle.bit_rule.specs.Width.{legal_width}
-use Rattle.bitunpacker.specs.declared.Made.TheVariants.{Unpacker, Refused as NotMade}
 use Rattle.bitunpacker.specs.declared.BitUnpacker.{BitUnpacker}
 use Rattle.refusal.specs.declared.Refusal.{Refusal}
 use Rattle.bitunpacker.specs.Unpacker.{new_of}
@@ -47,14 +46,14 @@ block_length-le s k sound = go (is_closed s && eqb (k + 1) s.blocks)
 -- ---- whether an entry is damaged, by what `new` answers of its width
 
 module _ (used n k : ℕ) (entries : List ℕ) {w : ℕ} (width : w ≡ entry_width k entries) where
-  pub damaged_width : (why : Refusal) → NotMade why ≡ new_of w → damaged_entry used n k entries ≡ true
+  pub damaged_width : (why : Refusal) → Err why ≡ new_of w → damaged_entry used n k entries ≡ true
   unfolding damaged_entry
-  damaged_width why not_made = simp (ap legal_width (sym width) ∙ (new_says w (NotMade why) not_made).0)
+  damaged_width why not_made = simp (ap legal_width (sym width) ∙ (new_says w (Err why) not_made).0)
 
-  pub damaged_end : {at m : ℕ} (u : BitUnpacker) → at ≡ entry_offset k entries → m ≡ n → Unpacker u ≡ new_of w
+  pub damaged_end : {at m : ℕ} (u : BitUnpacker) → at ≡ entry_offset k entries → m ≡ n → Ok u ≡ new_of w
       → damaged_entry used n k entries ≡ ltb used (at + bytes_of_block m w)
   unfolding damaged_entry
-  damaged_end u offset size made = simp (ap legal_width (sym width) ∙ (new_says w (Unpacker u) made).0, offset, size, width)
+  damaged_end u offset size made = simp (ap legal_width (sym width) ∙ (new_says w (Ok u) made).0, offset, size, width)
 
 -- ---- a block that is not damaged
 
@@ -85,7 +84,7 @@ module _ {used n k : ℕ} {entries : List ℕ} (block : Whole used n k entries) 
 
   -- reading one gives the value
   pub one_value : (j : ℕ) → j < n
-      → read_one_of (entry_base k entries) (entry_width k entries) j (rest_from (entry_offset k entries) bytes) ≡ Value (block_value k j bytes entries)
+      → read_one_of (entry_base k entries) (entry_width k entries) j (rest_from (entry_offset k entries) bytes) ≡ Ok (block_value k j bytes entries)
   unfolding read_one_of block_value
   one_value j below =
       rw rest_from_is

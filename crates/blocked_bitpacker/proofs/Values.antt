@@ -1,5 +1,7 @@
 -- The values of a store from an index on, one stretch after the other: each stretch lies in one block, from whose bytes it is read, or among
 -- the values that wait. Two lists with the same elements are the same (`values_are`).
+use Rattle.std.specs.Prelude.{Ok}
+use Rattle.refusal.specs.Done.{done}
 use mathlib.Core.Path.{◌≡◌, refl, sym, ap, ap₂, ◌∙◌, subst}
 use mathlib.Core.Logic.{⊎_elim}
 use mathlib.Core.Bool.{Bool, true, false, ◌||◌, cond}
@@ -15,7 +17,6 @@ use Rattle.bit_rule.specs.Place.{values_from}
 use Rattle.bit_rule.proofs.Place.{length-values_from, get_or-values_from}
 use Rattle.bit_rule.proofs.Parts.{rest_from, rest_from_is}
 use Rattle.bit_rule.proofs.Width.{le_or_lt}
-use Rattle.bitunpacker.specs.declared.Filled.TheVariants.{Done}
 use Rattle.bitunpacker.specs.Unpacker.{range}
 use Rattle.block.specs.Block.{entry_offset, entry_width, entry_base, damaged_entry, above_base, block_value}
 use Rattle.block.specs.Calls.{read_of}
@@ -101,7 +102,7 @@ module _ (s : BlockedBitpacker) (bytes : List ℕ) {i n : ℕ} {entries : List �
   pub block_values : (there : i / 128 < s.blocks) → Whole s.used (length_of_block s (i / 128)) (i / 128) entries → s.used ≤ length bytes
       → (out : List ℕ) → length out ≡ n
       → read_of (entry_base (i / 128) entries) (entry_width (i / 128) entries) (i % 128) (rest_from (entry_offset (i / 128) entries) bytes) out
-      ≡ range Done (values_of s bytes entries i n)
+      ≡ range done (values_of s bytes entries i n)
   unfolding read_of value_of block_value
   block_values there block used out many =
       let k = i / 128 in
@@ -116,7 +117,7 @@ module _ (s : BlockedBitpacker) (bytes : List ℕ) {i n : ℕ} {entries : List �
       get_or_changed raise vs j (omega (arith, length-values_from w (i % 128) n part))
       ∙ ap raise (get_or-values_from w (i % 128) n part j h)
       ∙ sym (simp (same_block j h, next_place j h, lt-ltb (i / 128) s.blocks there))) in
-      rw rest_from_is (simp (block.legal, many, ne_eqb n 0 (λ none. omega (arith, here.some)), le-leb ((i % 128 + n) * w) (8 * length part) lies) (ap (range Done) read))
+      rw rest_from_is (simp (block.legal, many, ne_eqb n 0 (λ none. omega (arith, here.some)), le-leb ((i % 128 + n) * w) (8 * length part) lies) (ap (range done) read))
 
 -- ---- entries that are damaged, and entries that are not
 

@@ -1,22 +1,15 @@
 -- What each call on a store answers, and what the store and both areas are then. Each has document 01's list of checks in its order:
 -- "add: 8, 6, 5, 4. Flush of a store: 8, nothing waiting succeeds, 5, 4. Store get: 8 (store), 7, 8 (entry). Store range and search: 8
 -- (store), empty succeeds, 7, then for search 4, then 8 over every touched entry before anything is written."
-use Rattle.std.specs.Prelude.{ℕ, ◌+◌, ◌-◌, ◌*◌, ◌/◌, Bool, ◌||◌, ◌&&◌, cond, List, [], ◌∷◌, ◌++◌, leb, ltb, eqb, length, take, set}
+use Rattle.std.specs.Prelude.{ℕ, ◌+◌, ◌-◌, ◌*◌, ◌/◌, Bool, ◌||◌, ◌&&◌, cond, List, [], ◌∷◌, ◌++◌, leb, ltb, eqb, length, take, set, Ok, Err, Result}
 use Rattle.bit_rule.specs.Search.{matching_ids, at_start, pasted_at}
 use Rattle.refusal.specs.declared.Refusal.{Refusal}
 use Rattle.refusal.specs.declared.Refusal.TheVariants.{NoRoom, EntriesFull, Closed, NoSuchIndex, Damaged}
 use Rattle.refusal.specs.First.{check, first_that_holds}
-use Rattle.bitunpacker.specs.declared.Got.{Got}
-use Rattle.bitunpacker.specs.declared.Got.TheVariants.{Value, Refused as NotGot}
-use Rattle.bitunpacker.specs.declared.Filled.TheVariants.{Done as Filled, Refused as NotFilled}
-use Rattle.bitunpacker.specs.declared.Found.TheVariants.{Ids, Refused as NotFound}
+use Rattle.refusal.specs.Done.{done}
 use Rattle.bitunpacker.specs.Unpacker.{Range, range, Search, search, no_room}
 use Rattle.blocked_bitpacker.specs.declared.BlockedBitpacker.{BlockedBitpacker}
-use Rattle.blocked_bitpacker.specs.declared.Done.{Done}
-use Rattle.blocked_bitpacker.specs.declared.Done.TheVariants.{Accepted, Refused}
 use Rattle.blocked_bitpacker.specs.declared.Stored.{Stored}
-use Rattle.blocked_bitpacker.specs.declared.Counted.{Counted}
-use Rattle.blocked_bitpacker.specs.declared.Counted.TheVariants.{Count, Refused as NotCounted}
 use Rattle.block.specs.Block.{eight_zeros, words_per_entry, block_size, block_bytes, entry_words, damaged_entry}
 use Rattle.blocked_bitpacker.specs.Store.{block_limit, none_waiting, store_of, fresh_store, is_closed, damaged_store, count_of, length_of_block, in_block, value_of, values_of, touched_damaged}
 
@@ -31,12 +24,12 @@ pub record Changed : Type 0 where
 abbrev pub changed : Stored → List ℕ → List ℕ → Changed
 changed r bytes entries = record { stored = r; bytes = bytes; entries = entries }
 
-abbrev pub answered : Done → BlockedBitpacker → Stored
+abbrev pub answered : Result (Unit {0}) Refusal → BlockedBitpacker → Stored
 answered done s = record { done = done; store = s }
 
 -- "A refusal returns its number and nothing else; buffers .. and store stay as they were."
 abbrev pub refused_with : Refusal → BlockedBitpacker → Stored
-refused_with why s = answered (Refused why) s
+refused_with why s = answered (Err why) s
 
 abbrev pub refused_call : Refusal → BlockedBitpacker → List ℕ → List ℕ → Changed
 refused_call why s bytes entries = changed (refused_with why s) bytes entries
@@ -52,8 +45,8 @@ made r bytes = record { stored = r; bytes = bytes }
 -- "eight zero bytes at the start of the byte area"; refused 4 on fewer than 8 bytes, "and then the answer carries a fresh store".
 unfoldable pub new_of : List ℕ → Made
 new_of bytes =
-    first_that_holds (check (ltb (length bytes) 8) (made (answered (Refused NoRoom) fresh_store) bytes) ∷ [])
-    (made (answered Accepted fresh_store) (at_start eight_zeros bytes))
+    first_that_holds (check (ltb (length bytes) 8) (made (answered (Err NoRoom) fresh_store) bytes) ∷ [])
+    (made (answered done fresh_store) (at_start eight_zeros bytes))
 
 -- The values that wait.
 abbrev pub waiting_values : BlockedBitpacker → List ℕ
@@ -72,7 +65,7 @@ no_room_for_block s vs bytes = ltb (length bytes) (s.used + block_size vs + 8)
 unfoldable pub sealed : BlockedBitpacker → List ℕ → ℕ → List ℕ → List ℕ → Changed
 sealed s vs last bytes entries =
     changed
-    (answered Accepted (store_of none_waiting (s.used + block_size vs) (s.blocks + 1) 0 last))
+    (answered done (store_of none_waiting (s.used + block_size vs) (s.blocks + 1) 0 last))
     (pasted_at s.used (block_bytes vs ++ eight_zeros) bytes)
     (pasted_at (words_per_entry * s.blocks) (entry_words s.used vs) entries)
 
@@ -100,14 +93,14 @@ add_of s v bytes entries =
     ∷ check (seals && entries_full s entries) (refused_call EntriesFull s bytes entries)
     ∷ check (seals && no_room_for_block s vs bytes) (refused_call NoRoom s bytes entries)
     ∷ [])
-    (cond seals (sealed s vs 0 bytes entries) (changed (answered Accepted (waits s v)) bytes entries))
+    (cond seals (sealed s vs 0 bytes entries) (changed (answered done (waits s v)) bytes entries))
 
 -- "A flush seals n = 1..127 waiting values the same way and closes the store. A flush with none waiting does nothing and closes nothing."
 unfoldable pub flush_of : BlockedBitpacker → List ℕ → List ℕ → Changed
 flush_of s bytes entries =
     first_that_holds
     (check (damaged_store s (length bytes) (length entries)) (refused_call Damaged s bytes entries)
-    ∷ check (eqb s.waiting 0) (changed (answered Accepted s) bytes entries)
+    ∷ check (eqb s.waiting 0) (changed (answered done s) bytes entries)
     ∷ check (entries_full s entries) (refused_call EntriesFull s bytes entries)
     ∷ check (no_room_for_block s (waiting_values s) bytes) (refused_call NoRoom s bytes entries)
     ∷ [])
@@ -115,28 +108,28 @@ flush_of s bytes entries =
 
 -- ---- calls that read
 
-unfoldable pub counted_of : BlockedBitpacker → List ℕ → List ℕ → Counted
+unfoldable pub counted_of : BlockedBitpacker → List ℕ → List ℕ → Result ℕ Refusal
 counted_of s bytes entries =
-    first_that_holds (check (damaged_store s (length bytes) (length entries)) (NotCounted Damaged) ∷ []) (Count (count_of s))
+    first_that_holds (check (damaged_store s (length bytes) (length entries)) (Err Damaged) ∷ []) (Ok (count_of s))
 
-unfoldable pub get_of : BlockedBitpacker → ℕ → List ℕ → List ℕ → Got
+unfoldable pub get_of : BlockedBitpacker → ℕ → List ℕ → List ℕ → Result ℕ Refusal
 get_of s i bytes entries =
     first_that_holds
-    (check (damaged_store s (length bytes) (length entries)) (NotGot Damaged)
-    ∷ check (leb (count_of s) i) (NotGot NoSuchIndex)
-    ∷ check (in_block s i && damaged_entry s.used (length_of_block s (i / 128)) (i / 128) entries) (NotGot Damaged)
+    (check (damaged_store s (length bytes) (length entries)) (Err Damaged)
+    ∷ check (leb (count_of s) i) (Err NoSuchIndex)
+    ∷ check (in_block s i && damaged_entry s.used (length_of_block s (i / 128)) (i / 128) entries) (Err Damaged)
     ∷ [])
-    (Value (value_of s bytes entries i))
+    (Ok (value_of s bytes entries i))
 
 unfoldable pub get_range_of : BlockedBitpacker → ℕ → List ℕ → List ℕ → List ℕ → Range
 get_range_of s start bytes entries out =
     first_that_holds
-    (check (damaged_store s (length bytes) (length entries)) (range (NotFilled Damaged) out)
-    ∷ check (eqb (length out) 0) (range Filled out)
-    ∷ check (ltb (count_of s) (start + length out)) (range (NotFilled NoSuchIndex) out)
-    ∷ check (touched_damaged s entries start (start + length out)) (range (NotFilled Damaged) out)
+    (check (damaged_store s (length bytes) (length entries)) (range (Err Damaged) out)
+    ∷ check (eqb (length out) 0) (range done out)
+    ∷ check (ltb (count_of s) (start + length out)) (range (Err NoSuchIndex) out)
+    ∷ check (touched_damaged s entries start (start + length out)) (range (Err Damaged) out)
     ∷ [])
-    (range Filled (values_of s bytes entries start (length out)))
+    (range done (values_of s bytes entries start (length out)))
 
 -- The ids from start to before end whose value lies in lo..hi, ascending.
 unfoldable pub ids_of : BlockedBitpacker → ℕ → ℕ → ℕ → ℕ → List ℕ → List ℕ → List ℕ
@@ -146,10 +139,10 @@ unfoldable pub search_of : BlockedBitpacker → ℕ → ℕ → ℕ → ℕ → 
 search_of s lo hi start end bytes entries positions =
     let ids = ids_of s lo hi start end bytes entries in
     first_that_holds
-    (check (damaged_store s (length bytes) (length entries)) (search (NotFound Damaged) positions)
-    ∷ check (leb end start) (search (Ids 0) positions)
-    ∷ check (ltb (count_of s) end) (search (NotFound NoSuchIndex) positions)
-    ∷ check (no_room start end positions) (search (NotFound NoRoom) positions)
-    ∷ check (touched_damaged s entries start end) (search (NotFound Damaged) positions)
+    (check (damaged_store s (length bytes) (length entries)) (search (Err Damaged) positions)
+    ∷ check (leb end start) (search (Ok 0) positions)
+    ∷ check (ltb (count_of s) end) (search (Err NoSuchIndex) positions)
+    ∷ check (no_room start end positions) (search (Err NoRoom) positions)
+    ∷ check (touched_damaged s entries start end) (search (Err Damaged) positions)
     ∷ [])
-    (search (Ids (length ids)) (at_start ids positions))
+    (search (Ok (length ids)) (at_start ids positions))

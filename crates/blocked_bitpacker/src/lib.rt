@@ -10,8 +10,6 @@ ghost use Rattle.bitunpacker.specs.Unpacker.{range, search};
 ghost use Rattle.blocked_bitpacker.specs.Store.{SoundIn, fresh_store, damaged_store, count_of};
 ghost use Rattle.blocked_bitpacker.specs.Calls.{made, new_of, changed, refused_with, seal_or_refuse, add_of, flush_of, counted_of, get_of, get_range_of, search_of};
 
-use bitunpacker::{Filled, Found, Got};
-use block::Sealing;
 use reading::{find, get_in_block, read_all, touches_damage};
 use refusal::Refusal;
 
@@ -26,25 +24,11 @@ pub struct BlockedBitpacker {
     pub last_length: usize,
 }
 
-// The call was done, or why not.
-#[derive(Clone, Copy)]
-pub enum Done {
-    Accepted,
-    Refused(Refusal),
-}
-
 // What a call that changes the store answers, with the store as it then is.
 #[derive(Clone, Copy)]
 pub struct Stored {
-    pub done: Done,
+    pub done: Result<(), Refusal>,
     pub store: BlockedBitpacker,
-}
-
-// How many values were accepted, or why it cannot be said.
-#[derive(Clone, Copy)]
-pub enum Counted {
-    Count(usize),
-    Refused(Refusal),
 }
 
 impl BlockedBitpacker {
@@ -72,13 +56,13 @@ impl BlockedBitpacker {
         let store = BlockedBitpacker::fresh();
         if bytes.len() < 8 {
             return Stored {
-                done: Done::Refused(Refusal::NoRoom),
+                done: Err(Refusal::NoRoom),
                 store,
             };
         }
         block::clear_eight(bytes);
         Stored {
-            done: Done::Accepted,
+            done: Ok(()),
             store,
         }
     }
@@ -127,13 +111,13 @@ impl BlockedBitpacker {
     }
 
     // How many values were accepted.
-    pub fn count(self, bytes: &[u8], entries: &[u64]) -> Counted
+    pub fn count(self, bytes: &[u8], entries: &[u64]) -> Result<usize, Refusal>
         ensures { result ≡ counted_of self bytes.now entries.now }
     {
         if self.is_damaged(bytes.len(), entries.len()) {
-            return Counted::Refused(Refusal::Damaged);
+            return Err(Refusal::Damaged);
         }
-        Counted::Count(self.accepted())
+        Ok(self.accepted())
     }
 
     // A call that was refused, with the store as it came.
@@ -141,7 +125,7 @@ impl BlockedBitpacker {
         ensures { result ≡ refused_with why self }
     {
         Stored {
-            done: Done::Refused(why),
+            done: Err(why),
             store: self,
         }
     }
@@ -167,15 +151,15 @@ impl BlockedBitpacker {
             return self.refused(Refusal::EntriesFull);
         }
         match block::seal(values, &mut bytes[used..]) {
-            Sealing::Refused(why) => self.refused(why),
-            Sealing::Sealed(base, width, size) => {
-                entries[at] = used as u64 + width as u64 * 0x100_0000_0000_0000;
-                entries[at + 1] = base;
+            Err(why) => self.refused(why),
+            Ok(sealed) => {
+                entries[at] = used as u64 + sealed.width as u64 * 0x100_0000_0000_0000;
+                entries[at + 1] = sealed.base;
                 Stored {
-                    done: Done::Accepted,
+                    done: Ok(()),
                     store: BlockedBitpacker {
                         buffer: [0; 128],
-                        used: used + size,
+                        used: used + sealed.size,
                         blocks: blocks + 1,
                         waiting: 0,
                         last_length,
@@ -201,7 +185,7 @@ impl BlockedBitpacker {
         next.waiting = waiting + 1;
         if waiting < 127 {
             return Stored {
-                done: Done::Accepted,
+                done: Ok(()),
                 store: next,
             };
         }
@@ -219,7 +203,7 @@ impl BlockedBitpacker {
         let waiting = self.waiting;
         if waiting == 0 {
             return Stored {
-                done: Done::Accepted,
+                done: Ok(()),
                 store: self,
             };
         }
@@ -228,21 +212,21 @@ impl BlockedBitpacker {
     }
 
     // The value at an index.
-    pub fn get(self, idx: usize, bytes: &[u8], entries: &[u64]) -> Got
+    pub fn get(self, idx: usize, bytes: &[u8], entries: &[u64]) -> Result<u64, Refusal>
         ensures { result ≡ get_of self idx bytes.now entries.now }
     {
         if self.is_damaged(bytes.len(), entries.len()) {
-            return Got::Refused(Refusal::Damaged);
+            return Err(Refusal::Damaged);
         }
         if self.accepted() <= idx {
-            return Got::Refused(Refusal::NoSuchIndex);
+            return Err(Refusal::NoSuchIndex);
         }
         let block = idx / BlockedBitpacker::BLOCK_SIZE;
         let place = idx % BlockedBitpacker::BLOCK_SIZE;
         if block < self.blocks {
             return get_in_block(self, block, place, bytes, entries);
         }
-        Got::Value(self.buffer[place])
+        Ok(self.buffer[place])
     }
 
     // Fills the output with the values from an index on.
@@ -252,27 +236,27 @@ impl BlockedBitpacker {
         bytes: &[u8],
         entries: &[u64],
         output: &mut [u64],
-    ) -> Filled
+    ) -> Result<(), Refusal>
         ensures { range result output.new ≡ get_range_of self start bytes.now entries.now output.old }
     {
         if self.is_damaged(bytes.len(), entries.len()) {
-            return Filled::Refused(Refusal::Damaged);
+            return Err(Refusal::Damaged);
         }
         if output.len() == 0 {
-            return Filled::Done;
+            return Ok(());
         }
         let count = self.accepted();
         if count < start {
-            return Filled::Refused(Refusal::NoSuchIndex);
+            return Err(Refusal::NoSuchIndex);
         }
         if count - start < output.len() {
-            return Filled::Refused(Refusal::NoSuchIndex);
+            return Err(Refusal::NoSuchIndex);
         }
         if touches_damage(self, start, start + output.len(), entries) {
-            return Filled::Refused(Refusal::Damaged);
+            return Err(Refusal::Damaged);
         }
         read_all(self, start, bytes, entries, output);
-        Filled::Done
+        Ok(())
     }
 
     // The ids from start to before end whose value lies in lo..=hi, ascending, at the start of the
@@ -286,24 +270,24 @@ impl BlockedBitpacker {
         bytes: &[u8],
         entries: &[u64],
         positions: &mut [u32],
-    ) -> Found
+    ) -> Result<usize, Refusal>
         ensures { search result positions.new ≡ search_of self lo hi start end bytes.now entries.now positions.old }
     {
         if self.is_damaged(bytes.len(), entries.len()) {
-            return Found::Refused(Refusal::Damaged);
+            return Err(Refusal::Damaged);
         }
         if end <= start {
-            return Found::Ids(0);
+            return Ok(0);
         }
         if self.accepted() < end as usize {
-            return Found::Refused(Refusal::NoSuchIndex);
+            return Err(Refusal::NoSuchIndex);
         }
         if positions.len() < (end - start) as usize {
-            return Found::Refused(Refusal::NoRoom);
+            return Err(Refusal::NoRoom);
         }
         if touches_damage(self, start as usize, end as usize, entries) {
-            return Found::Refused(Refusal::Damaged);
+            return Err(Refusal::Damaged);
         }
-        Found::Ids(find(self, lo, hi, start, end, bytes, entries, positions))
+        Ok(find(self, lo, hi, start, end, bytes, entries, positions))
     }
 }

@@ -8,7 +8,7 @@ ghost use Rattle.blocked_bitpacker.specs.Calls.{ids_of};
 ghost use Rattle.blocked_bitpacker.specs.Parts.{block_got, Stretch};
 
 use crate::BlockedBitpacker;
-use bitunpacker::{BitUnpacker, Got, Made};
+use bitunpacker::BitUnpacker;
 use filter_vec::lies_between;
 use refusal::Refusal;
 
@@ -57,8 +57,8 @@ pub(crate) fn entry_is_damaged(store: BlockedBitpacker, k: usize, entries: &[u64
     let n = block_length(store, k);
     let width = entry.width;
     match BitUnpacker::new(width as u8) {
-        Made::Refused(_) => true,
-        Made::Unpacker(_) => store.used < entry.offset + (n * width + 7) / 8,
+        Err(_) => true,
+        Ok(_) => store.used < entry.offset + (n * width + 7) / 8,
     }
 }
 
@@ -69,13 +69,13 @@ pub(crate) fn get_in_block(
     place: usize,
     bytes: &[u8],
     entries: &[u64],
-) -> Got
+) -> Result<u64, Refusal>
     requires entries_value { damaged_store store (length bytes.now) (length entries.now) ≡ false }
     requires k_lt_blocks { (k < store.blocks) × (place < length_of_block store k) }
     ensures { result ≡ block_got store k place bytes.now entries.now }
 {
     if entry_is_damaged(store, k, entries) {
-        return Got::Refused(Refusal::Damaged);
+        return Err(Refusal::Damaged);
     }
     let entry = entry_at(entries, k);
     let offset = entry.offset;
@@ -150,7 +150,7 @@ fn read_stretch(
     let entry = entry_at(entries, k);
     let offset = entry.offset;
     let width = entry.width as u8;
-    block::read(entry.base, width, place as u32, &bytes[offset..], output);
+    let _ = block::read(entry.base, width, place as u32, &bytes[offset..], output);
 }
 
 // How many of n values from an index on lie in its block.

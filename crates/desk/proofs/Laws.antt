@@ -1,6 +1,7 @@
 -- A search over any two numbers, by one over ids of 32 bits: an empty range finds nothing wherever it lies, and a range that ends past every
 -- store's count is refused wherever it starts. Two words are the same exactly where no letter differs; and what is asked for depends on what
 -- was read alone.
+use Rattle.std.specs.Prelude.{Err}
 use mathlib.Core.Path.{◌≡◌, refl, sym, ap, ◌∙◌}
 use mathlib.Core.Bool.{Bool, true, false, ◌&&◌, cond}
 use mathlib.Core.List.{List, [], ◌∷◌}
@@ -15,9 +16,7 @@ use borrow.Author.Tests.{le-leb, lt-leb, lt-ltb, eq-eqb, ne_eqb}
 use Rattle.blocked_bitpacker.specs.declared.BlockedBitpacker.{BlockedBitpacker}
 use Rattle.blocked_bitpacker.specs.Store.{damaged_store, count_of}
 use Rattle.refusal.specs.declared.Refusal.{Refusal}
-use Rattle.bitunpacker.specs.declared.Found.TheVariants.{Refused as NotFound}
 use Rattle.bitunpacker.specs.Unpacker.{search}
-use Rattle.blocked_bitpacker.specs.declared.Counted.TheVariants.{Refused as NotCounted}
 use Rattle.blocked_bitpacker.specs.Calls.{counted_of, search_of}
 use Rattle.blocked_bitpacker.proofs.Judged.{judged}
 use Rattle.blocked_bitpacker.proofs.Values.{count_small}
@@ -50,8 +49,8 @@ module _ (s : BlockedBitpacker) (lo hi : ℕ) (bytes entries positions : List �
       (true_or_false (damaged_store s (length bytes) (length entries)))
 
   -- a store that cannot be counted cannot be searched, for the same reason
-  pub not_counted : (why : Refusal) (end : ℕ) → counted_of s bytes entries ≡ NotCounted why
-      → search (NotFound why) positions ≡ search_of s lo hi 0 end bytes entries positions
+  pub not_counted : (why : Refusal) (end : ℕ) → counted_of s bytes entries ≡ Err why
+      → search (Err why) positions ≡ search_of s lo hi 0 end bytes entries positions
   unfolding search_of
   not_counted why end is = let said = refused-count s bytes entries why is in simp (said.0, said.1)
 

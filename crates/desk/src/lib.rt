@@ -9,8 +9,7 @@ ghost use Rattle.blocked_bitpacker.specs.Store.{count_of};
 ghost use Rattle.blocked_bitpacker.specs.Calls.{search_of};
 ghost use Rattle.desk.specs.Blocks.{block_width_of, block_base_of};
 
-use bitunpacker::{Found, Got};
-use blocked_bitpacker::{BlockedBitpacker, Counted};
+use blocked_bitpacker::BlockedBitpacker;
 use refusal::Refusal;
 pub use words::{Fault, Request, Word, asked, same_word};
 
@@ -26,7 +25,7 @@ pub fn list(
     bytes: &[u8],
     entries: &[u64],
     positions: &mut [u32],
-) -> Found
+) -> Result<usize, Refusal>
     ensures { search result positions.new ≡ search_of store lo hi from to bytes.now entries.now positions.old }
 {
     if to <= from {
@@ -47,33 +46,33 @@ pub fn list_all(
     bytes: &[u8],
     entries: &[u64],
     positions: &mut [u32],
-) -> Found
+) -> Result<usize, Refusal>
     ensures { search result positions.new ≡ search_of store lo hi 0 (count_of store) bytes.now entries.now positions.old }
 {
     match store.count(bytes, entries) {
-        Counted::Refused(why) => Found::Refused(why),
-        Counted::Count(values) => list(store, lo, hi, 0, values as u64, bytes, entries, positions),
+        Err(why) => Err(why),
+        Ok(values) => list(store, lo, hi, 0, values as u64, bytes, entries, positions),
     }
 }
 
 // How many bits each value of a block takes, by its entry.
 #[tactic(auto, unfolding(crate::specs::Blocks::block_width_of, block::specs::Block::entry_width))]
-pub fn block_width(block: usize, entries: &[u64]) -> Got
+pub fn block_width(block: usize, entries: &[u64]) -> Result<u64, Refusal>
     ensures { result ≡ block_width_of block entries.now }
 {
     if block >= entries.len() / 2 {
-        return Got::Refused(Refusal::NoSuchIndex);
+        return Err(Refusal::NoSuchIndex);
     }
-    Got::Value(entries[block * 2] >> 56)
+    Ok(entries[block * 2] >> 56)
 }
 
 // The base of a block, by its entry: the lowest of its values.
 #[tactic(auto, unfolding(crate::specs::Blocks::block_base_of, block::specs::Block::entry_base))]
-pub fn block_base(block: usize, entries: &[u64]) -> Got
+pub fn block_base(block: usize, entries: &[u64]) -> Result<u64, Refusal>
     ensures { result ≡ block_base_of block entries.now }
 {
     if block >= entries.len() / 2 {
-        return Got::Refused(Refusal::NoSuchIndex);
+        return Err(Refusal::NoSuchIndex);
     }
-    Got::Value(entries[block * 2 + 1])
+    Ok(entries[block * 2 + 1])
 }

@@ -2,7 +2,7 @@
 ghost use Rattle.std.specs.Prelude.{◌≡◌};
 
 use crate::{LIMIT, REFUSED};
-use blocked_bitpacker::{BlockedBitpacker, Counted};
+use blocked_bitpacker::BlockedBitpacker;
 use refusal::Refusal;
 use terms::{Loaded, Trouble};
 
@@ -55,14 +55,14 @@ pub fn answer(
 {
     begin(err, why, path);
     match store.count(bytes, entries) {
-        Counted::Count(values) => {
+        Ok(values) => {
             if why.number() == 7 {
                 among(err, values as u64);
             } else {
                 unforeseen(err);
             }
         }
-        Counted::Refused(_) => {
+        Err(_) => {
             unforeseen(err);
         }
     }

@@ -1,5 +1,7 @@
 -- A run of the packer leaves the stream's bytes (`pack_all`), from which the bit rule reads the list back (`read_back`). A stretch of the
 -- list is a stretch of what is read, and no check of an unpacker of a legal width refuses what lies in the stream.
+use Rattle.std.specs.Prelude.{Ok}
+use Rattle.refusal.specs.Done.{done}
 use mathlib.Core.Path.{◌≡◌, refl, sym, ap, ap₂, ◌∙◌, subst}
 use mathlib.Core.Logic.{⊎_elim}
 use mathlib.Core.Bool.{true}
@@ -19,20 +21,16 @@ use Rattle.bit_rule.specs.Search.{matching_ids, at_start}
 use Rattle.bit_rule.proofs.Width.{legal_le, le_or_lt}
 use Rattle.bit_rule.proofs.Stream.{total_bits-of_width, length-stream_bytes}
 use Rattle.bit_rule.proofs.Place.{read_back, read_column, value_at-append, value_at-lt, values_from-add, length-values_from, column_of_read}
-use Rattle.bitpacker.specs.declared.Written.TheVariants.{Emitted}
-use Rattle.bitpacker.specs.Packer.{outcome, fresh}
+use Rattle.bitpacker.specs.Packer.{outcome, fresh, emitting}
 use Rattle.bitpacker.specs.Run.{pack_of}
 use Rattle.bitpacker.proofs.Run.{Narrow, pack_all}
-use Rattle.bitunpacker.specs.declared.Got.TheVariants.{Value}
-use Rattle.bitunpacker.specs.declared.Filled.TheVariants.{Done}
-use Rattle.bitunpacker.specs.declared.Found.TheVariants.{Ids}
 use Rattle.bitunpacker.specs.Unpacker.{unpacker_of, mask_of, get_of, range, get_range_of, Search, search, ids_of, search_of}
 use Rattle.promises.specs.Reply.{written_answer, got_reply, filled_answer, found_answer}
 use Rattle.promises.specs.Column.{stretch, ReadsAs, PackedAndRead, ReadAndPacked}
 
 -- a search that writes these ids
 found_ids : List ℕ → List ℕ → Search
-found_ids ids positions = search (Ids (length ids)) (at_start ids positions)
+found_ids ids positions = search (Ok (length ids)) (at_start ids positions)
 
 module _ (w : ℕ) (vs rest : List ℕ) (legal : legal_width w ≡ true) (fit : Fit (of_width w vs)) where
   -- the bytes that are read: the stream, and whatever follows it
@@ -69,24 +67,24 @@ module _ (w : ℕ) (vs rest : List ℕ) (legal : legal_width w ≡ true) (fit : 
       ∙ take_at middle after n (length-values_from w (0 + start) n bytes)
       ∙ ap (λ k. values_from w k n bytes) (zero-add start))
 
-  one : (i : ℕ) → i < length vs → get_of (unpacker_of w) i bytes ≡ Value (get_or vs i 0)
+  one : (i : ℕ) → i < length vs → get_of (unpacker_of w) i bytes ≡ Ok (get_or vs i 0)
   unfolding get_of bytes
   one i h =
       rw (legal, eq-eqb (mask_of w) (mask_of w) refl, le-leb ((i + 1) * w) (8 * length bytes) (inside (i + 1) (omega arith)))
-      (ap Value (value_at-append (stream_bytes (of_width w vs)) rest w i (in_stream (i + 1) (omega arith)) ∙ read_column w vs i fit h))
+      (ap Ok (value_at-append (stream_bytes (of_width w vs)) rest w i (in_stream (i + 1) (omega arith)) ∙ read_column w vs i fit h))
 
   some_values : (start : ℕ) (out : List ℕ) → start + length out ≤ length vs
-      → get_range_of (unpacker_of w) start bytes out ≡ range Done (stretch start (length out) vs)
+      → get_range_of (unpacker_of w) start bytes out ≡ range done (stretch start (length out) vs)
   unfolding get_range_of
   some_values start [] few = rw (legal, eq-eqb (mask_of w) (mask_of w) refl)
   some_values start (x ∷ out) few =
       rw
       (legal, eq-eqb (mask_of w) (mask_of w) refl, eqb-suc-zero (length out), le-leb ((start + suc (length out)) * w) (8 * length bytes) (inside (start + suc (length out)) few))
-      (ap (range Done) (stretch_read start (suc (length out)) few))
+      (ap (range done) (stretch_read start (suc (length out)) few))
 
-  all_values : (out : List ℕ) → length out ≡ length vs → get_range_of (unpacker_of w) 0 bytes out ≡ range Done vs
+  all_values : (out : List ℕ) → length out ≡ length vs → get_range_of (unpacker_of w) 0 bytes out ≡ range done vs
   all_values out same =
-      some_values 0 out (omega arith) ∙ ap (range Done) (take_all (length out) vs (omega arith))
+      some_values 0 out (omega arith) ∙ ap (range done) (take_all (length out) vs (omega arith))
 
   some_ids : (lo hi start end : ℕ) (positions : List ℕ) → end ≤ length vs → end - start ≤ length positions
       → search_of (unpacker_of w) lo hi start end bytes positions ≡ found_ids (matching_ids lo hi start (stretch start (end - start) vs)) positions
@@ -132,13 +130,13 @@ pub packed_and_read : PackedAndRead
 packed_and_read w vs output legal fit room =
     let ps = of_width w vs in
     let bits : total_bits ps ≡ length vs * w = total_bits-of_width w vs in
-    let whole : pack_of ps output ≡ outcome (Emitted fresh (bytes_for (total_bits ps))) (stream_bytes ps ++ drop (bytes_for (total_bits ps)) output) =
+    let whole : pack_of ps output ≡ outcome (emitting fresh (bytes_for (total_bits ps))) (stream_bytes ps ++ drop (bytes_for (total_bits ps)) output) =
     pack_all ps output fit (narrow w vs (legal_le w legal)) (omega arith) in
     record {
       packed =
           ap written_answer
           (whole
-          ∙ ap₂ (λ n k. outcome (Emitted fresh n) (stream_bytes ps ++ drop k output)) (ap bytes_for bits) (sym (length-stream_bytes ps)));
+          ∙ ap₂ (λ n k. outcome (emitting fresh n) (stream_bytes ps ++ drop k output)) (ap bytes_for bits) (sym (length-stream_bytes ps)));
       read = subst (ReadsAs w vs) (ap (λ o. o.output) (sym whole)) (stream_reads w vs (drop (bytes_for (total_bits ps)) output) legal fit);
     }
 
@@ -169,4 +167,4 @@ read_and_packed w bytes out output legal are-bytes size spare room =
     ap written_answer
     (ap (λ l. pack_of (of_width w l) output) (filled w bytes legal out size)
     ∙ pack_all ps output (read_fits w 0 n bytes) (narrow w vs (legal_le w legal)) (omega arith)
-    ∙ ap₂ (λ k l. outcome (Emitted fresh k) (l ++ drop k output)) taken (column_of_read w n bytes are-bytes size spare))
+    ∙ ap₂ (λ k l. outcome (emitting fresh k) (l ++ drop k output)) taken (column_of_read w n bytes are-bytes size spare))

@@ -1,5 +1,6 @@
 -- A refusal changes nothing: each check that refuses gives the store, the areas and what was lent as they came, and a call that no check
 -- refuses does not answer a refusal. By the checks of each call, whatever they test.
+use Rattle.std.specs.Prelude.{Ok, Err, Result}
 use mathlib.Core.Path.{◌≡◌, ap}
 use mathlib.Core.Bool.{Bool, true, false, ◌&&◌, cond}
 use mathlib.Core.List.{List, [], ◌∷◌, ◌++◌}
@@ -10,18 +11,12 @@ use lib.ListN.{length}
 use Rattle.refusal.specs.declared.Refusal.{Refusal}
 use Rattle.refusal.specs.declared.Refusal.TheVariants.{NoRoom, EntriesFull, Closed, NoSuchIndex, Damaged}
 use Rattle.refusal.specs.Number.{number_of}
-use Rattle.bitunpacker.specs.declared.Got.{Got}
-use Rattle.bitunpacker.specs.declared.Got.TheVariants.{Value, Refused as NotGot}
-use Rattle.bitunpacker.specs.declared.Filled.TheVariants.{Done as AllFilled, Refused as NotFilled}
-use Rattle.bitunpacker.specs.declared.Found.TheVariants.{Ids, Refused as NotFound}
+use Rattle.refusal.specs.Done.{done}
 use Rattle.bitunpacker.specs.Unpacker.{Range, range, Search, search, no_room}
 use Rattle.block.specs.Block.{damaged_entry}
-use Rattle.blocked_bitpacker.specs.declared.Counted.{Counted}
-use Rattle.blocked_bitpacker.specs.declared.Counted.TheVariants.{Count, Refused as NotCounted}
 use Rattle.blocked_bitpacker.specs.Calls.{Changed, changed, answered, refused_call, add_of, flush_of, counted_of, get_of, get_range_of, search_of, sealed, waits, waiting_values, entries_full, no_room_for_block}
 use Rattle.blocked_bitpacker.specs.Store.{is_closed, damaged_store, count_of, in_block, length_of_block, touched_damaged}
 use Rattle.blocked_bitpacker.specs.declared.BlockedBitpacker.{BlockedBitpacker}
-use Rattle.blocked_bitpacker.specs.declared.Done.TheVariants.{Accepted}
 use Rattle.promises.specs.Reply.{values, refusal, counted_reply, got_reply}
 use Rattle.promises.specs.Defined.{Held, held}
 use Rattle.promises.specs.Histories.{add, flush, count, get, range as rangeCall, search as searchCall, Outcome, gives, changes, fills, finds, outcome_of}
@@ -55,7 +50,7 @@ module _ (h : Held) where
   unfolding ChangeKeeps
   refused_change why = refuses [] h (number_of why)
 
-  done_change : (s : BlockedBitpacker) (bytes entries : List ℕ) → ChangeKeeps (changed (answered Accepted s) bytes entries)
+  done_change : (s : BlockedBitpacker) (bytes entries : List ℕ) → ChangeKeeps (changed (answered done s) bytes entries)
   unfolding ChangeKeeps
   done_change s bytes entries = does_not [] h [] [] (held s bytes entries)
 
@@ -87,21 +82,21 @@ module _ (h : Held) where
 
   -- ---- reading
 
-  unfoldable CountKeeps : Counted → Type 0
+  unfoldable CountKeeps : Result ℕ Refusal → Type 0
   CountKeeps r = Keeps [] h (gives (counted_reply r) [] h)
 
   count_keeps : CountKeeps (counted_of s h.bytes h.entries)
   unfolding counted_of CountKeeps damaged
-  count_keeps = checked CountKeeps damaged (NotCounted Damaged) (Count (count_of s)) (refuses [] h 8) (does_not [] h (count_of s ∷ []) [] h)
+  count_keeps = checked CountKeeps damaged (Err Damaged) (Ok (count_of s)) (refuses [] h 8) (does_not [] h (count_of s ∷ []) [] h)
 
-  unfoldable GetKeeps : Got → Type 0
+  unfoldable GetKeeps : Result ℕ Refusal → Type 0
   GetKeeps r = Keeps [] h (gives (got_reply r) [] h)
 
-  refused_get : (why : Refusal) → GetKeeps (NotGot why)
+  refused_get : (why : Refusal) → GetKeeps (Err why)
   unfolding GetKeeps
   refused_get why = refuses [] h (number_of why)
 
-  got : (v : ℕ) → GetKeeps (Value v)
+  got : (v : ℕ) → GetKeeps (Ok v)
   unfolding GetKeeps
   got v = does_not [] h (v ∷ []) [] h
 
@@ -116,11 +111,11 @@ module _ (h : Held) where
     unfoldable RangeKeeps : Range → Type 0
     RangeKeeps r = Keeps out h (fills h r)
 
-    refused_range : (why : Refusal) → RangeKeeps (range (NotFilled why) out)
+    refused_range : (why : Refusal) → RangeKeeps (range (Err why) out)
     unfolding RangeKeeps
     refused_range why = refuses out h (number_of why)
 
-    filled : (read : List ℕ) → RangeKeeps (range AllFilled read)
+    filled : (read : List ℕ) → RangeKeeps (range done read)
     unfolding RangeKeeps
     filled read = does_not out h [] read h
 
@@ -136,11 +131,11 @@ module _ (h : Held) where
     unfoldable SearchKeeps : Search → Type 0
     SearchKeeps r = Keeps positions h (finds h r)
 
-    refused_search : (why : Refusal) → SearchKeeps (search (NotFound why) positions)
+    refused_search : (why : Refusal) → SearchKeeps (search (Err why) positions)
     unfolding SearchKeeps
     refused_search why = refuses positions h (number_of why)
 
-    found : (n : ℕ) (left : List ℕ) → SearchKeeps (search (Ids n) left)
+    found : (n : ℕ) (left : List ℕ) → SearchKeeps (search (Ok n) left)
     unfolding SearchKeeps
     found n left = does_not positions h (n ∷ []) left h
 

@@ -1,8 +1,9 @@
 -- An answer as document 01 writes it: a refusal is "its number and nothing else", and any other answer is its values. One definition for
 -- each enum of an answer gives the number and the values of each of its cases. What a call writes stands in the buffer that was lent to it.
-use Rattle.std.specs.Prelude.{ℕ, List, [], ◌∷◌, length, take}
+use Rattle.std.specs.Prelude.{ℕ, List, [], ◌∷◌, length, take, Ok, Err, Result}
 use Rattle.std.specs.Float.Ieee.{to_bits}
 use Rattle.std.specs.Float.{binary64}
+use Rattle.refusal.specs.declared.Refusal.{Refusal}
 use Rattle.bit_rule.specs.Search.{at_start}
 use Rattle.refusal.specs.Number.{number_of}
 use Rattle.num_bits.specs.declared.MinMaxU64.{MinMaxU64}
@@ -10,23 +11,10 @@ use Rattle.num_bits.specs.declared.MinMaxU64.TheVariants.{Nothing as NoWord, Of 
 use Rattle.num_bits.specs.declared.MinMaxF64.{MinMaxF64}
 use Rattle.num_bits.specs.declared.MinMaxF64.TheVariants.{Nothing as NoFloat, Of as Floats}
 use Rattle.bitpacker.specs.declared.Written.{Written}
-use Rattle.bitpacker.specs.declared.Written.TheVariants.{Emitted, Refused as NotWritten}
 use Rattle.bitpacker.specs.Packer.{Outcome}
-use Rattle.bitunpacker.specs.declared.Made.{Made}
-use Rattle.bitunpacker.specs.declared.Made.TheVariants.{Unpacker, Refused as NotMade}
-use Rattle.bitunpacker.specs.declared.Got.{Got}
-use Rattle.bitunpacker.specs.declared.Got.TheVariants.{Value, Refused as NotGot}
-use Rattle.bitunpacker.specs.declared.Filled.{Filled}
-use Rattle.bitunpacker.specs.declared.Filled.TheVariants.{Done as AllFilled, Refused as NotFilled}
-use Rattle.bitunpacker.specs.declared.Found.{Found}
-use Rattle.bitunpacker.specs.declared.Found.TheVariants.{Ids, Refused as NotFound}
 use Rattle.bitunpacker.specs.Unpacker.{Range, Search}
-use Rattle.block.specs.declared.Sealing.{Sealing}
-use Rattle.block.specs.declared.Sealing.TheVariants.{Sealed, Refused as NotSealed}
-use Rattle.blocked_bitpacker.specs.declared.Done.{Done}
-use Rattle.blocked_bitpacker.specs.declared.Done.TheVariants.{Accepted, Refused as NotDone}
-use Rattle.blocked_bitpacker.specs.declared.Counted.{Counted}
-use Rattle.blocked_bitpacker.specs.declared.Counted.TheVariants.{Count, Refused as NotCounted}
+use Rattle.block.specs.declared.Sealed.{Sealed}
+use Rattle.bitunpacker.specs.declared.BitUnpacker.{BitUnpacker}
 
 pub data Reply : Type 0 where
   values : List ℕ → Reply
@@ -44,44 +32,44 @@ floats_reply NoFloat = values []
 floats_reply (Floats low high) = values (to_bits binary64 low ∷ to_bits binary64 high ∷ [])
 
 -- How many bytes a write or a flush emitted, and what the packer then holds: its bits and how many they are.
-abbrev pub written_reply : Written → Reply
-written_reply (Emitted p n) = values (n ∷ p.mini_buffer ∷ p.mini_buffer_written ∷ [])
-written_reply (NotWritten why) = refusal (number_of why)
+abbrev pub written_reply : Result Written Refusal → Reply
+written_reply (Ok w) = values (w.emitted ∷ w.packer.mini_buffer ∷ w.packer.mini_buffer_written ∷ [])
+written_reply (Err why) = refusal (number_of why)
 
 -- The unpacker that was made.
-abbrev pub made_reply : Made → Reply
-made_reply (Unpacker u) = values (u.num_bits ∷ u.mask ∷ [])
-made_reply (NotMade why) = refusal (number_of why)
+abbrev pub made_reply : Result BitUnpacker Refusal → Reply
+made_reply (Ok u) = values (u.num_bits ∷ u.mask ∷ [])
+made_reply (Err why) = refusal (number_of why)
 
 -- The value that a single read gave.
-abbrev pub got_reply : Got → Reply
-got_reply (Value v) = values (v ∷ [])
-got_reply (NotGot why) = refusal (number_of why)
+abbrev pub got_reply : Result ℕ Refusal → Reply
+got_reply (Ok v) = values (v ∷ [])
+got_reply (Err why) = refusal (number_of why)
 
 -- A range read gives no value besides those in the output.
-abbrev pub filled_reply : Filled → Reply
-filled_reply AllFilled = values []
-filled_reply (NotFilled why) = refusal (number_of why)
+abbrev pub filled_reply : Result (Unit {0}) Refusal → Reply
+filled_reply (Ok _) = values []
+filled_reply (Err why) = refusal (number_of why)
 
 -- How many ids a search found.
-abbrev pub found_reply : Found → Reply
-found_reply (Ids n) = values (n ∷ [])
-found_reply (NotFound why) = refusal (number_of why)
+abbrev pub found_reply : Result ℕ Refusal → Reply
+found_reply (Ok n) = values (n ∷ [])
+found_reply (Err why) = refusal (number_of why)
 
 -- A sealed block's base, width and size.
-abbrev pub sealing_reply : Sealing → Reply
-sealing_reply (Sealed base width size) = values (base ∷ width ∷ size ∷ [])
-sealing_reply (NotSealed why) = refusal (number_of why)
+abbrev pub sealing_reply : Result Sealed Refusal → Reply
+sealing_reply (Ok s) = values (s.base ∷ s.width ∷ s.size ∷ [])
+sealing_reply (Err why) = refusal (number_of why)
 
 -- A call that changes a store gives no value.
-abbrev pub done_reply : Done → Reply
-done_reply Accepted = values []
-done_reply (NotDone why) = refusal (number_of why)
+abbrev pub done_reply : Result (Unit {0}) Refusal → Reply
+done_reply (Ok _) = values []
+done_reply (Err why) = refusal (number_of why)
 
 -- How many values a store has accepted.
-abbrev pub counted_reply : Counted → Reply
-counted_reply (Count n) = values (n ∷ [])
-counted_reply (NotCounted why) = refusal (number_of why)
+abbrev pub counted_reply : Result ℕ Refusal → Reply
+counted_reply (Ok n) = values (n ∷ [])
+counted_reply (Err why) = refusal (number_of why)
 
 -- ---- with what was lent
 

@@ -1,7 +1,6 @@
 -- The calls that the marked examples speak of, one after the other, each given what the last one left.
-use Rattle.std.specs.Prelude.{ℕ, zero, suc, ◌+◌, List, [], ◌∷◌, ◌++◌, replicate}
-use Rattle.bitpacker.specs.declared.Written.TheVariants.{Emitted}
-use Rattle.bitpacker.specs.Packer.{Outcome, outcome, fresh, write_of, flush_of}
+use Rattle.std.specs.Prelude.{ℕ, zero, suc, ◌+◌, List, [], ◌∷◌, ◌++◌, replicate, Ok}
+use Rattle.bitpacker.specs.Packer.{Outcome, outcome, fresh, write_of, flush_of, emitting}
 use Rattle.bitpacker.specs.Run.{go_on}
 use Rattle.block.specs.Block.{entry_width, entry_base}
 use Rattle.blocked_bitpacker.specs.Calls.{Changed, changed, new_of, add_of, flush_of as flushStoreOf, counted_of, get_of}
@@ -32,7 +31,7 @@ writes_from w (v ∷ vs) o = writes_from w vs (go_on o.answer (λ p n. write_of 
 
 -- From a packer that holds nothing.
 unfoldable pub writes : ℕ → List ℕ → Outcome
-writes w vs = writes_from w vs (outcome (Emitted fresh 0) eight_places)
+writes w vs = writes_from w vs (outcome (emitting fresh 0) eight_places)
 
 unfoldable pub packer_flushed : Outcome → Outcome
 packer_flushed o = go_on o.answer (λ p n. flush_of p o.output) o.output

@@ -6,6 +6,7 @@ use crate::say::{say, say_one};
 use crate::state::State;
 use bitpacker::{BitPacker, Written};
 use std::num::wrapping_add_usize;
+use refusal::Refusal;
 
 // Byte i of eight to a word, least first. The words are gone through again and again.
 fn byte_of(words: &[u64], i: usize) -> u8 {
@@ -43,7 +44,7 @@ pub fn set_entries(step: &[u64], entries: &mut [u64]) {
 }
 
 // `ROOM WIDTH VALUE`, or `ROOM` of a flush: so many bytes are lent.
-fn write(packer: BitPacker, flushes: bool, step: &[u64], output: &mut [u8]) -> Written {
+fn write(packer: BitPacker, flushes: bool, step: &[u64], output: &mut [u8]) -> Result<Written, Refusal> {
     if flushes {
         return packer.flush(output);
     }
@@ -52,15 +53,15 @@ fn write(packer: BitPacker, flushes: bool, step: &[u64], output: &mut [u8]) -> W
 
 // Answered by 0 and how many bytes were emitted, or by the number of the refusal, after which the packer goes
 // on as it was.
-fn after(mut state: State, port: Written) -> State {
+fn after(mut state: State, port: Result<Written, Refusal>) -> State {
     match port {
-        Written::Emitted(packer, n) => {
-            state.mini_buffer = packer.mini_buffer;
-            state.held = packer.mini_buffer_written;
-            state.emitted = wrapping_add_usize(state.emitted, n);
-            say(0, &[n as u64]);
+        Ok(written) => {
+            state.mini_buffer = written.packer.mini_buffer;
+            state.held = written.packer.mini_buffer_written;
+            state.emitted = wrapping_add_usize(state.emitted, written.emitted);
+            say(0, &[written.emitted as u64]);
         }
-        Written::Refused(why) => say_one(why.number() as u64),
+        Err(why) => say_one(why.number() as u64),
     }
     state
 }

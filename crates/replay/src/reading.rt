@@ -4,8 +4,9 @@ use crate::areas::ROOM;
 use crate::line::{at, at_most, low_u32};
 use crate::say::{say, say_places};
 use crate::state::State;
-use bitunpacker::{BitUnpacker, Filled, Found, Got};
+use bitunpacker::BitUnpacker;
 use std::num::wrapping_add_u64;
+use refusal::Refusal;
 
 // An unpacker by its fields, which may be forged.
 fn unpacker_of(state: State) -> BitUnpacker {
@@ -15,7 +16,7 @@ fn unpacker_of(state: State) -> BitUnpacker {
     }
 }
 
-fn get_one(state: State, of_store: bool, index: u64, bytes: &[u8], entries: &[u64]) -> Got {
+fn get_one(state: State, of_store: bool, index: u64, bytes: &[u8], entries: &[u64]) -> Result<u64, Refusal> {
     if of_store {
         return state.store.get(index as usize, bytes, entries);
     }
@@ -41,10 +42,10 @@ fn get_each(
             bytes,
             entries,
         ) {
-            Got::Value(value) => {
+            Ok(value) => {
                 values[i] = value;
             }
-            Got::Refused(why) => {
+            Err(why) => {
                 say(why.number() as u64, &values[0..i]);
                 return;
             }
@@ -74,7 +75,7 @@ fn get_range(
     bytes: &[u8],
     entries: &[u64],
     output: &mut [u64],
-) -> Filled {
+) -> Result<(), Refusal> {
     if of_store {
         return state
             .store
@@ -89,8 +90,8 @@ pub fn range(state: State, of_store: bool, step: &[u64], bytes: &[u8], entries: 
     let mut room = areas::numbers();
     let output = &mut room[0..at_most(at(step, 1), ROOM)];
     match get_range(state, of_store, at(step, 0), bytes, entries, output) {
-        Filled::Done => say(0, output),
-        Filled::Refused(why) => say(why.number() as u64, output),
+        Ok(()) => say(0, output),
+        Err(why) => say(why.number() as u64, output),
     }
 }
 
@@ -102,7 +103,7 @@ fn find(
     bytes: &[u8],
     entries: &[u64],
     positions: &mut [u32],
-) -> Found {
+) -> Result<usize, Refusal> {
     let lo = at(step, 0);
     let hi = at(step, 1);
     let start = low_u32(at(step, 2));
@@ -120,7 +121,7 @@ pub fn search(state: State, of_store: bool, step: &[u64], bytes: &[u8], entries:
     let mut positions = areas::positions();
     let lent = &mut positions[0..at_most(at(step, 4), ROOM)];
     match find(state, of_store, step, bytes, entries, lent) {
-        Found::Ids(found) => say_places(0, found as u64, lent),
-        Found::Refused(why) => say_places(why.number() as u64, 0, lent),
+        Ok(found) => say_places(0, found as u64, lent),
+        Err(why) => say_places(why.number() as u64, 0, lent),
     }
 }

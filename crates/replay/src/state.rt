@@ -2,7 +2,7 @@
 use crate::line::{at, low_u8};
 use crate::say::say_one;
 use bitpacker::BitPacker;
-use bitunpacker::{BitUnpacker, Made};
+use bitunpacker::BitUnpacker;
 use blocked_bitpacker::BlockedBitpacker;
 
 // The place of the line at which a number is being read; how many bytes and entry words are lent; a packer's
@@ -59,12 +59,12 @@ impl State {
     // `WIDTH`: the unpacker that the port makes.
     fn with_new_unpacker(mut self, step: &[u64]) -> State {
         match BitUnpacker::new(low_u8(at(step, 0))) {
-            Made::Unpacker(unpacker) => {
+            Ok(unpacker) => {
                 self.width = unpacker.num_bits;
                 self.mask = unpacker.mask;
                 say_one(0);
             }
-            Made::Refused(why) => say_one(why.number() as u64),
+            Err(why) => say_one(why.number() as u64),
         }
         self
     }

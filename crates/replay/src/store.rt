@@ -1,13 +1,14 @@
 // What is told to a blocked store, and what is asked of the whole of it.
 use crate::say::{say, say_one};
 use crate::state::State;
-use blocked_bitpacker::{BlockedBitpacker, Counted, Done, Stored};
+use blocked_bitpacker::{BlockedBitpacker, Stored};
+use refusal::Refusal;
 
 // 0, or the number of the refusal.
-fn number_of(done: Done) -> u64 {
+fn number_of(done: Result<(), Refusal>) -> u64 {
     match done {
-        Done::Accepted => 0,
-        Done::Refused(why) => why.number() as u64,
+        Ok(()) => 0,
+        Err(why) => why.number() as u64,
     }
 }
 
@@ -62,8 +63,8 @@ pub fn change(
 // Answered by 0 and the count, or the number of the refusal.
 pub fn count(store: BlockedBitpacker, bytes: &[u8], entries: &[u64]) {
     match store.count(bytes, entries) {
-        Counted::Count(n) => say(0, &[n as u64]),
-        Counted::Refused(why) => say_one(why.number() as u64),
+        Ok(n) => say(0, &[n as u64]),
+        Err(why) => say_one(why.number() as u64),
     }
 }
 

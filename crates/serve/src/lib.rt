@@ -10,12 +10,12 @@ mod rows;
 ghost use Rattle.std.specs.Prelude.{◌≡◌, ◌+◌, ◌%◌, ◌≤◌};
 ghost use Rattle.serve.specs.Status.{Status, HandedOver};
 
-use bitunpacker::{Found, Got};
-use blocked_bitpacker::{BlockedBitpacker, Counted};
+use blocked_bitpacker::BlockedBitpacker;
 use desk::Request;
 use file::{byte_area, entry_area, position_area};
 use notices::{ANSWERED, REFUSED};
 use std::rt::Files;
+use refusal::Refusal;
 
 fn get(
     out: i32,
@@ -29,8 +29,8 @@ fn get(
     ensures { result ≤ 1 }
 {
     match store.get(id as usize, bytes, entries) {
-        Got::Value(value) => rows::value(out, err, value),
-        Got::Refused(why) => notices::answer(err, path, why, store, bytes, entries),
+        Ok(value) => rows::value(out, err, value),
+        Err(why) => notices::answer(err, path, why, store, bytes, entries),
     }
 }
 
@@ -40,7 +40,7 @@ fn found(
     err: i32,
     path: &[u8],
     store: BlockedBitpacker,
-    answer: Found,
+    answer: Result<usize, Refusal>,
     asked: u64,
     bytes: &[u8],
     entries: &[u64],
@@ -49,8 +49,8 @@ fn found(
     ensures { result ≤ 1 }
 {
     match answer {
-        Found::Ids(count) => rows::list(out, err, store, count, asked, bytes, entries, positions),
-        Found::Refused(why) => notices::answer(err, path, why, store, bytes, entries),
+        Ok(count) => rows::list(out, err, store, count, asked, bytes, entries, positions),
+        Err(why) => notices::answer(err, path, why, store, bytes, entries),
     }
 }
 
@@ -68,8 +68,8 @@ fn list(
 {
     let mut positions = position_area();
     match store.count(bytes, entries) {
-        Counted::Refused(why) => notices::answer(err, path, why, store, bytes, entries),
-        Counted::Count(values) => {
+        Err(why) => notices::answer(err, path, why, store, bytes, entries),
+        Ok(values) => {
             let answer = desk::list_all(store, lo, hi, bytes, entries, &mut positions);
             found(
                 out,

@@ -2,9 +2,9 @@
 ghost use Rattle.std.specs.Prelude.{◌≤◌};
 
 use crate::page::Page;
-use bitunpacker::Got;
-use blocked_bitpacker::{BlockedBitpacker, Counted};
+use blocked_bitpacker::BlockedBitpacker;
 use notices::ANSWERED;
+use refusal::Refusal;
 
 // Writes what waits, and says whether all of it was written.
 fn ended(at: Page, page: &[u8], err: i32) -> u8
@@ -45,8 +45,8 @@ fn row_of(
     page: &mut [u8],
 ) -> Page {
     match store.get(id as usize, bytes, entries) {
-        Got::Value(value) => row(at, id as u64, value, page),
-        Got::Refused(_) => at.spoilt(),
+        Ok(value) => row(at, id as u64, value, page),
+        Err(_) => at.spoilt(),
     }
 }
 
@@ -116,10 +116,10 @@ fn figure(at: Page, name: &[u8], n: u64, page: &mut [u8]) -> Page {
     labelled(at, name, n, page).text(b"\n", page)
 }
 
-fn number_in(got: Got) -> u64 {
+fn number_in(got: Result<u64, Refusal>) -> u64 {
     match got {
-        Got::Value(value) => value,
-        Got::Refused(_) => 0,
+        Ok(value) => value,
+        Err(_) => 0,
     }
 }
 
@@ -198,7 +198,7 @@ pub(crate) fn show(
     ensures { result ≤ 1 }
 {
     match store.count(bytes, entries) {
-        Counted::Refused(why) => notices::answer(err, path, why, store, bytes, entries),
-        Counted::Count(values) => shown(out, err, store, values as u64, entries),
+        Err(why) => notices::answer(err, path, why, store, bytes, entries),
+        Ok(values) => shown(out, err, store, values as u64, entries),
     }
 }

@@ -1,4 +1,5 @@
 -- What the three calls come to: a value through a packer of 64 bits, a read by what `new` and `get` answer, and a list past its checks.
+use Rattle.std.specs.Prelude.{Ok, Err, Result}
 use mathlib.Core.Path.{◌≡◌, refl, sym, ap, ap₂, ◌∙◌}
 use mathlib.Core.Logic.{⊎_elim}
 use mathlib.Core.Bool.{Bool, true, false, not, cond}
@@ -17,13 +18,9 @@ use Rattle.refusal.specs.declared.Refusal.{Refusal}
 use Rattle.refusal.specs.declared.Refusal.TheVariants.{BadWidth, TooWide, OutOfData, NoRoom}
 use Rattle.refusal.specs.Number.{number_of}
 use Rattle.bitpacker.specs.declared.Written.{Written}
-use Rattle.bitpacker.specs.declared.Written.TheVariants.{Emitted, Refused}
-use Rattle.bitpacker.specs.Packer.{fresh, damaged_packer, written, write_of}
+use Rattle.bitpacker.specs.Packer.{fresh, damaged_packer, written, write_of, emitting}
 use Rattle.bitpacker.proofs.Run.{packed}
 use Rattle.bitunpacker.specs.declared.BitUnpacker.{BitUnpacker}
-use Rattle.bitunpacker.specs.declared.Made.TheVariants.{Unpacker, Refused as NotMade}
-use Rattle.bitunpacker.specs.declared.Got.{Got}
-use Rattle.bitunpacker.specs.declared.Got.TheVariants.{Value, Refused as NotGot}
 use Rattle.bitunpacker.specs.Unpacker.{mask_of, new_of, get_of}
 use Rattle.block.proofs.Reading.{new_says}
 use Rattle.stumpvessel.specs.Host.{Answered, answered, refuses, words_of, any_too_wide, pack_list_of, put_of, read_of}
@@ -31,11 +28,11 @@ use Rattle.stumpvessel.proofs.Words.{length-words_of}
 
 -- ---- a value of 64 bits
 
-abbrev number_in : Written → ℕ
-number_in (Emitted p n) = 0
-number_in (Refused why) = number_of why
+abbrev number_in : Result Written Refusal → ℕ
+number_in (emitting p n) = 0
+number_in (Err why) = number_of why
 
-abbrev pub numbered : Written → List ℕ → Answered
+abbrev pub numbered : Result Written Refusal → List ℕ → Answered
 numbered r out = answered (number_in r) out
 
 -- a packer that holds nothing emits all of it at once
@@ -52,28 +49,28 @@ put_law v out word =
 
 -- ---- a read
 
-abbrev pub read : Got → List ℕ → Answered
-read (Value v) out = put_of v out
-read (NotGot why) out = refuses why out
+abbrev pub read : Result ℕ Refusal → List ℕ → Answered
+read (Ok v) out = put_of v out
+read (Err why) out = refuses why out
 
 module _ (bytes : List ℕ) (w i : ℕ) (out : List ℕ) where
-  pub read_made : (u : BitUnpacker) → Unpacker u ≡ new_of w → (got : Got) → got ≡ get_of u i bytes → read got out ≡ read_of bytes w i out
+  pub read_made : (u : BitUnpacker) → Ok u ≡ new_of w → (got : Result ℕ Refusal) → got ≡ get_of u i bytes → read got out ≡ read_of bytes w i out
   unfolding get_of read_of
   read_made u made got is =
-      let says = new_says w (Unpacker u) made in
+      let says = new_says w (Ok u) made in
       ap (λ r. read r out) (is ∙ ap (λ v. get_of v i bytes) says.1)
       ∙ simp (says.0, eq-eqb (mask_of w) (mask_of w) refl) (by_check (lies_in w i (length bytes)))
     where
       by_check : (inside : Bool)
-          → read (cond (not inside) (NotGot OutOfData) (Value (value_at w i bytes))) out
+          → read (cond (not inside) (Err OutOfData) (Ok (value_at w i bytes))) out
           ≡ cond (not inside) (refuses OutOfData out) (put_of (value_at w i bytes) out)
       by_check true = refl
       by_check false = refl
 
-  pub read_not_made : (why : Refusal) → NotMade why ≡ new_of w → refuses why out ≡ read_of bytes w i out
+  pub read_not_made : (why : Refusal) → Err why ≡ new_of w → refuses why out ≡ read_of bytes w i out
   unfolding read_of
   read_not_made why not_made =
-      let says = new_says w (NotMade why) not_made in
+      let says = new_says w (Err why) not_made in
       simp says.0 (ap (λ r. refuses r out) says.1)
 
 -- ---- a list, past each of its checks

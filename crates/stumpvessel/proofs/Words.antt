@@ -1,5 +1,6 @@
 -- A list of words of eight bytes: the word at an index, read from the part that starts there; whether one is too wide, told word by word; and
 -- that words of which none is too wide fit the width.
+use Rattle.std.specs.Prelude.{Ok}
 use mathlib.Core.Path.{◌≡◌, refl, sym, ap, ap₂, ◌∙◌}
 use mathlib.Core.Bool.{Bool, true, false, ◌||◌}
 use mathlib.Core.List.{List, [], ◌∷◌}
@@ -16,8 +17,6 @@ use Rattle.bit_rule.specs.Place.{value_at}
 use Rattle.bit_rule.proofs.Place.{length-values_from, get_or-values_from, value_at-drop}
 use Rattle.bit_rule.proofs.Parts.{rest_from, rest_from_is, length-rest_from}
 use Rattle.bitunpacker.specs.declared.BitUnpacker.{BitUnpacker}
-use Rattle.bitunpacker.specs.declared.Made.TheVariants.{Unpacker}
-use Rattle.bitunpacker.specs.declared.Got.TheVariants.{Value}
 use Rattle.bitunpacker.specs.Unpacker.{new_of, get_of}
 use Rattle.block.specs.Block.{differences}
 use Rattle.block.proofs.Reading.{new_says}
@@ -25,15 +24,15 @@ use Rattle.stumpvessel.specs.Host.{words_of, any_too_wide}
 
 -- ---- one word
 
-pub word_of_part : (list : List ℕ) (i : ℕ) → AreBytes list → 8 * (i + 1) ≤ length list → (u : BitUnpacker) → Unpacker u ≡ new_of 64
-    → get_of u 0 (rest_from (8 * i) list) ≡ Value (value_at 64 i list)
+pub word_of_part : (list : List ℕ) (i : ℕ) → AreBytes list → 8 * (i + 1) ≤ length list → (u : BitUnpacker) → Ok u ≡ new_of 64
+    → get_of u 0 (rest_from (8 * i) list) ≡ Ok (value_at 64 i list)
 unfolding get_of
 word_of_part list i are-bytes there u made =
     let part = rest_from (8 * i) list in
     let starts : 8 * (8 * i) ≡ i * 64 = omega arith in
-    ap (λ v. get_of v 0 part) (new_says 64 (Unpacker u) made).1
+    ap (λ v. get_of v 0 part) (new_says 64 (Ok u) made).1
     ∙ rw (le-leb ((0 + 1) * 64) (8 * length part) (omega (arith, length-rest_from (8 * i) list)))
-    (ap Value (ap (value_at 64 0) (rest_from_is (8 * i) list) ∙ value_at-drop 64 (8 * i) i 0 list are-bytes starts ∙ ap (λ k. value_at 64 k list) (omega arith)))
+    (ap Ok (ap (value_at 64 0) (rest_from_is (8 * i) list) ∙ value_at-drop 64 (8 * i) i 0 list are-bytes starts ∙ ap (λ k. value_at 64 k list) (omega arith)))
 
 pub length-words_of : (list : List ℕ) → length (words_of list) ≡ length list / 8
 unfolding words_of

@@ -10,8 +10,8 @@ ghost use Rattle.bit_rule.specs.Width.{width_of};
 ghost use Rattle.bitpacker.proofs.Run.{packed};
 ghost use Rattle.stumpvessel.specs.Host.{answered, words_of, any_too_wide, pack_list_of, put_of, read_of};
 
-use bitpacker::{BitPacker, Written, exceeds};
-use bitunpacker::{BitUnpacker, Got, Made};
+use bitpacker::{BitPacker, exceeds};
+use bitunpacker::BitUnpacker;
 use num_bits::compute_num_bits;
 use refusal::Refusal;
 
@@ -30,11 +30,11 @@ fn word_at(list: &[u8], i: usize) -> u64
 {
     let at = 8 * i;
     match BitUnpacker::new(64) {
-        Made::Unpacker(unpacker) => match unpacker.get(0, &list[at..]) {
-            Got::Value(word) => word,
-            Got::Refused(_) => 0,
+        Ok(unpacker) => match unpacker.get(0, &list[at..]) {
+            Ok(word) => word,
+            Err(_) => 0,
         },
-        Made::Refused(_) => 0,
+        Err(_) => 0,
     }
 }
 
@@ -73,17 +73,17 @@ fn pack(list: &[u8], width: u8, output: &mut [u8])
     let mut i = 0;
     while i < count {
         match packer.write(word_at(list, i), width, &mut output[at..]) {
-            Written::Emitted(next, n) => {
-                packer = next;
-                at = at + n;
+            Ok(written) => {
+                packer = written.packer;
+                at = at + written.emitted;
             }
-            Written::Refused(_) => {
+            Err(_) => {
                 return;
             }
         }
         i += 1;
     }
-    packer.flush(&mut output[at..]);
+    let _ = packer.flush(&mut output[at..]);
 }
 
 // Packs a list of words of eight bytes, least byte first, at one width.
@@ -112,8 +112,8 @@ fn put(value: u64, output: &mut [u8]) -> u8
     ensures { answered result output.new ≡ put_of value output.old }
 {
     match BitPacker::new().write(value, 64, output) {
-        Written::Emitted(_, _) => 0,
-        Written::Refused(why) => why.number(),
+        Ok(_) => 0,
+        Err(why) => why.number(),
     }
 }
 
@@ -123,10 +123,10 @@ pub extern "C" fn stumpvessel_read(data: &[u8], width: u8, index: u32, output: &
     ensures { answered result output.new ≡ read_of «data».now width index output.old }
 {
     match BitUnpacker::new(width) {
-        Made::Refused(why) => why.number(),
-        Made::Unpacker(unpacker) => match unpacker.get(index, data) {
-            Got::Refused(why) => why.number(),
-            Got::Value(value) => put(value, output),
+        Err(why) => why.number(),
+        Ok(unpacker) => match unpacker.get(index, data) {
+            Err(why) => why.number(),
+            Ok(value) => put(value, output),
         },
     }
 }

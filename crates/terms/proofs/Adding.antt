@@ -1,11 +1,12 @@
 -- A line's number, added: what is refused leaves both areas as they were, and what is accepted is what the store's own add does.
+use Rattle.std.specs.Prelude.{Ok, Err}
 use Rattle.std.proofs.Common.{◌≡◌, ℕ, Bool, true, false, cond, length, refl, ap, arith}
-use Rattle.blocked_bitpacker.specs.declared.Done.TheVariants.{Accepted, Refused}
 use Rattle.blocked_bitpacker.specs.Calls.{Changed, refused_call, entries_full, add_of}
 use Rattle.blocked_bitpacker.specs.Store.{damaged_store}
 use Rattle.refusal.specs.declared.Refusal.{Refusal}
 use Rattle.refusal.specs.declared.Refusal.TheVariants.{EntriesFull, Damaged}
 use Rattle.refusal.specs.Number.{number_of}
+use Rattle.refusal.specs.Done.{done}
 use Rattle.promises.specs.Reply.{done_reply}
 use Rattle.promises.specs.Defined.{Held}
 use Rattle.promises.specs.Histories.{add, outcome_of, left_by}
@@ -33,9 +34,9 @@ module _ (h : Held) (v : ℕ) where
 
   -- the areas where something is refused
   unfoldable Keeps : Changed → Type 0
-  Keeps c = (why : Refusal) → c.stored.done ≡ Refused why → (c.bytes ≡ h.bytes) × (c.entries ≡ h.entries)
+  Keeps c = (why : Refusal) → c.stored.done ≡ Err why → (c.bytes ≡ h.bytes) × (c.entries ≡ h.entries)
 
-  pub refused_keeps : (why : Refusal) → addLineIn.stored.done ≡ Refused why → (addLineIn.bytes ≡ h.bytes) × (addLineIn.entries ≡ h.entries)
+  pub refused_keeps : (why : Refusal) → addLineIn.stored.done ≡ Err why → (addLineIn.bytes ≡ h.bytes) × (addLineIn.entries ≡ h.entries)
   unfolding Keeps outcome_of
   refused_keeps = each_check Keeps (λ other why is. (refl, refl)) added
     where
@@ -46,8 +47,8 @@ module _ (h : Held) (v : ℕ) where
 
   -- all of it where nothing is
   unfoldable IsAdd : Changed → Type 0
-  IsAdd c = c.stored.done ≡ Accepted → c ≡ addIn
+  IsAdd c = c.stored.done ≡ done → c ≡ addIn
 
-  pub accepted_is_add : addLineIn.stored.done ≡ Accepted → addLineIn ≡ addIn
+  pub accepted_is_add : addLineIn.stored.done ≡ done → addLineIn ≡ addIn
   unfolding IsAdd
   accepted_is_add = each_check IsAdd (λ why is. absurd (let z : ◌≡◌ {A = ℕ} 0 1 = cc in omega arith)) (λ is. refl)

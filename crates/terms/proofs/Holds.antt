@@ -1,10 +1,11 @@
 -- The store then holds the text's numbers: each accepted line's number is its numeral, adding it is the store's own add, and so the store is
 -- that of a history of adds, of which the promises speak.
+use Rattle.std.specs.Prelude.{Ok, Err, Result}
 use Rattle.std.proofs.Common.{◌≡◌, ℕ, suc, ◌+◌, ◌^◌, ◌<◌, ◌≤◌, Bool, true, false, cond, eqb, ltb, leb, List, [], ◌∷◌, ◌++◌, map, length, get_or, take, sym, refl, ap, ◌∙◌, subst, ap₂, subst₂, true≢false, append-nil, pos_of_ne-zero, arith, le-ltb, leb-false}
+use Rattle.refusal.specs.declared.Refusal.{Refusal}
+use Rattle.refusal.specs.Done.{done}
 use lib.ListN.{length-map}
 use borrow.Author.Tests.{eqb-false}
-use Rattle.blocked_bitpacker.specs.declared.Done.{Done}
-use Rattle.blocked_bitpacker.specs.declared.Done.TheVariants.{Accepted, Refused as NotDone}
 use Rattle.blocked_bitpacker.specs.Calls.{new_of}
 use Rattle.decimal.specs.declared.Numeral.{Numeral}
 use Rattle.decimal.specs.declared.Numeral.TheVariants.{Number, Empty as EmptyLine, NotADigit as OtherByte, TooLarge as LargeNumber}
@@ -98,7 +99,7 @@ holds_last (b ∷ bs) lines h = by_read (read_of (without_cr (b ∷ bs)))
     by_read LargeNumber = holds_stopped (b ∷ bs) [] lines h Cut refl
 
 -- the number of the first line, which was accepted, and those behind it
-module _ (h : Held) (v : ℕ) (is : (addLineIn h v).stored.done ≡ Accepted) where
+module _ (h : Held) (v : ℕ) (is : (addLineIn h v).stored.done ≡ done) where
   after_add : Held
   after_add = held (addLineIn h v).stored.store (addLineIn h v).bytes (addLineIn h v).entries
 
@@ -137,11 +138,11 @@ module _ (left : List ℕ) where
   holds_lines [] lines h = holds_last left lines h
   holds_lines (l ∷ ls) lines h = by_line (read_of l) refl (holds_lines ls)
     where
-      by_answer : (v : ℕ) (done : Done) → (addLineIn h v).stored.done ≡ done → Reads l v
+      by_answer : (v : ℕ) (done : Result (Unit {0}) Refusal) → (addLineIn h v).stored.done ≡ done → Reads l v
           → ((lines : ℕ) (h : Held) → HoldsFrom left ls lines h (load_lines left ls lines h))
           → HoldsFrom left (l ∷ ls) lines h (after_answer (addLineIn h v) done lines h (load_lines left ls))
-      by_answer v Accepted is line rest = holds_more h v is left l ls lines _ line (rest (lines + 1) (after_add h v is))
-      by_answer v (NotDone why) is line rest = holds_stopped left (l ∷ ls) lines h (Refused why) refl
+      by_answer v (Ok _) is line rest = holds_more h v is left l ls lines _ line (rest (lines + 1) (after_add h v is))
+      by_answer v (Err why) is line rest = holds_stopped left (l ∷ ls) lines h (Refused why) refl
 
       by_line : (q : Numeral) → read_of l ≡ q → ((lines : ℕ) (h : Held) → HoldsFrom left ls lines h (load_lines left ls lines h))
           → HoldsFrom left (l ∷ ls) lines h (after_line q lines h (load_lines left ls))
@@ -153,7 +154,7 @@ module _ (left : List ℕ) where
 -- ---- from a new store
 
 -- which is made where there are eight bytes
-is_made : (bytes : List ℕ) → 8 ≤ length bytes → (new_of bytes).stored.done ≡ Accepted
+is_made : (bytes : List ℕ) → 8 ≤ length bytes → (new_of bytes).stored.done ≡ done
 unfolding new_of
 is_made bytes room = simp (le-ltb (length bytes) 8 room)
 

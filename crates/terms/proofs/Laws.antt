@@ -1,9 +1,9 @@
 -- What the checks of the definitions come to where they hold, and where they do not; and what is left of a text after a byte of it.
+use Rattle.std.specs.Prelude.{Err}
 use Rattle.std.proofs.Common.{◌≡◌, ℕ, ◌+◌, ◌*◌, ◌<◌, ◌≤◌, Bool, true, false, cond, ◌&&◌, eqb, List, [], ◌∷◌, length, get_or, drop, sym, refl, ap, ◌∙◌, ap₂, add-one, arith, drop_of_length-le, drop-cons, le-ltb, lt-ltb, eq-eqb, ne_eqb}
 use Rattle.refusal.specs.declared.Refusal.{Refusal}
 use Rattle.refusal.specs.declared.Refusal.TheVariants.{EntriesFull}
 use Rattle.blocked_bitpacker.specs.declared.BlockedBitpacker.{BlockedBitpacker}
-use Rattle.blocked_bitpacker.specs.declared.Counted.TheVariants.{Refused as NotCounted}
 use Rattle.blocked_bitpacker.specs.declared.Stored.{Stored}
 use Rattle.blocked_bitpacker.specs.Store.{block_limit, damaged_store}
 use Rattle.blocked_bitpacker.specs.Calls.{changed, refused_call, add_of, counted_of}
@@ -21,7 +21,7 @@ use Rattle.terms.specs.Loading.{begun, stopped_by, loaded_by, nothing_read, end_
 -- ---- one number
 
 module _ (s : BlockedBitpacker) (bytes entries : List ℕ) where
-  pub damaged_refused : (v : ℕ) (why : Refusal) → counted_of s bytes entries ≡ NotCounted why
+  pub damaged_refused : (v : ℕ) (why : Refusal) → counted_of s bytes entries ≡ Err why
       → refused_call why s bytes entries ≡ add_line_of s v bytes entries
   unfolding add_line_of
   damaged_refused v why e = let said = not_counted s bytes entries why e in simp (said.0, said.1)

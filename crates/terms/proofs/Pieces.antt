@@ -1,8 +1,9 @@
 -- However a text is cut, taking its pieces and ending is what the whole text leads to: pieces are taken as the joined text is, byte by byte;
 -- a line that the bytes have come to is what its state says at its end; and so line by line.
+use Rattle.std.specs.Prelude.{Ok, Err, Result}
 use Rattle.std.proofs.Common.{◌≡◌, ℕ, ◌+◌, ◌%◌, ◌^◌, ◌<◌, ◌≤◌, Bool, true, false, cond, not, ◌&&◌, eqb, List, [], ◌∷◌, ◌++◌, length, sym, refl, ap, ◌∙◌, ap₂, append_assoc, append-nil, mod-eq_of_lt, arith, length-append, ne_eqb}
-use Rattle.blocked_bitpacker.specs.declared.Done.{Done}
-use Rattle.blocked_bitpacker.specs.declared.Done.TheVariants.{Accepted, Refused as NotDone}
+use Rattle.refusal.specs.declared.Refusal.{Refusal}
+use Rattle.refusal.specs.Done.{done}
 use Rattle.blocked_bitpacker.specs.Calls.{new_of}
 use Rattle.decimal.specs.declared.Numeral.{Numeral}
 use Rattle.decimal.specs.declared.Numeral.TheVariants.{Number, Empty as EmptyLine, NotADigit as OtherByte, TooLarge as LargeNumber}
@@ -56,13 +57,13 @@ module _ (h : Held) (lines : ℕ) (line : Line) (short : lines + 1 < 2 ^ 64) (fi
   abbrev here : Loading
   here = (going h lines line).loading
 
-  answered : (v : ℕ) (done : Done) → (addLineIn h v).stored.done ≡ done
+  answered : (v : ℕ) (done : Result (Unit {0}) Refusal) → (addLineIn h v).stored.done ≡ done
       → finish (taken (answered_by done (addLineIn h v).stored.store here) (addLineIn h v).bytes (addLineIn h v).entries)
       ≡ after_answer (addLineIn h v) done lines h next
-  answered v Accepted is =
+  answered v done is =
       let k = held (addLineIn h v).stored.store (addLineIn h v).bytes (addLineIn h v).entries in
       ap (λ n. finish (going k n new_line)) (mod-eq_of_lt short) ∙ goes_on k
-  answered v (NotDone why) is =
+  answered v (Err why) is =
       let kept = refused_keeps h v why is in
       stopped (taken (stopped_by (Refused why) here) (addLineIn h v).bytes (addLineIn h v).entries) refl
       ∙ ap₂ (λ bytes entries. ended (loaded_of h.store lines (Refused why)) bytes entries) kept.0 kept.1
@@ -184,9 +185,9 @@ from_start text bytes entries few = by_answer (new_of bytes).stored.done
     fresh : Trouble → Taken
     fresh trouble = taken (loading_of (new_of bytes).stored.store 0 new_line trouble) (new_of bytes).bytes entries
 
-    by_answer : (done : Done) → ends_after text (fresh (trouble_of done)) ≡ on_new done text (begun bytes entries)
-    by_answer Accepted = comes_to text [] 0 (begun bytes entries) tt (omega arith)
-    by_answer (NotDone why) = ends_as_stopped (fresh (Refused why)) text refl
+    by_answer : (done : Result (Unit {0}) Refusal) → ends_after text (fresh (trouble_of done)) ≡ on_new done text (begun bytes entries)
+    by_answer (Ok _) = comes_to text [] 0 (begun bytes entries) tt (omega arith)
+    by_answer (Err why) = ends_as_stopped (fresh (Refused why)) text refl
 
 pub the_pieces_make_the_text : ThePiecesMakeTheText
 the_pieces_make_the_text pieces bytes entries few =

@@ -1,10 +1,9 @@
 -- How a text is taken byte by byte: what each call of a loading answers, and what the two areas then hold.
-use Rattle.std.specs.Prelude.{ℕ, ◌+◌, ◌%◌, ◌^◌, Bool, true, false, not, ◌&&◌, ◌||◌, List, [], ◌∷◌, length, ◌==◌}
+use Rattle.std.specs.Prelude.{ℕ, ◌+◌, ◌%◌, ◌^◌, Bool, true, false, not, ◌&&◌, ◌||◌, List, [], ◌∷◌, length, ◌==◌, Ok, Err, Result}
+use Rattle.refusal.specs.declared.Refusal.{Refusal}
 use Rattle.refusal.specs.First.{check, first_that_holds}
 use Rattle.refusal.specs.declared.Refusal.TheVariants.{EntriesFull, Damaged}
 use Rattle.blocked_bitpacker.specs.declared.BlockedBitpacker.{BlockedBitpacker}
-use Rattle.blocked_bitpacker.specs.declared.Done.{Done}
-use Rattle.blocked_bitpacker.specs.declared.Done.TheVariants.{Accepted, Refused as NotDone}
 use Rattle.blocked_bitpacker.specs.declared.Stored.{Stored}
 use Rattle.blocked_bitpacker.specs.Store.{damaged_store}
 use Rattle.blocked_bitpacker.specs.Calls.{Changed, refused_call, entries_full, new_of, add_of}
@@ -40,9 +39,9 @@ is_trouble (Refused _) = true
 is_trouble Cut = true
 is_trouble NoLine = true
 
-abbrev pub trouble_of : Done → Trouble
-trouble_of Accepted = Nothing
-trouble_of (NotDone why) = Refused why
+abbrev pub trouble_of : Result (Unit {0}) Refusal → Trouble
+trouble_of (Ok _) = Nothing
+trouble_of (Err why) = Refused why
 
 abbrev pub loading_of : BlockedBitpacker → ℕ → Line → Trouble → Loading
 loading_of s lines line trouble = record { store = s; lines = lines; line = line; trouble = trouble }
@@ -51,9 +50,9 @@ abbrev pub stopped_by : Trouble → Loading → Loading
 stopped_by trouble ld = loading_of ld.store ld.lines ld.line trouble
 
 -- What the store answered to a line's number.
-abbrev pub answered_by : Done → BlockedBitpacker → Loading → Loading
-answered_by Accepted s ld = loading_of s ((ld.lines + 1) % 2 ^ 64) new_line Nothing
-answered_by (NotDone why) s ld = stopped_by (Refused why) ld
+abbrev pub answered_by : Result (Unit {0}) Refusal → BlockedBitpacker → Loading → Loading
+answered_by (Ok _) s ld = loading_of s ((ld.lines + 1) % 2 ^ 64) new_line Nothing
+answered_by (Err why) s ld = stopped_by (Refused why) ld
 
 abbrev pub added_by : Stored → Loading → Loading
 added_by stored ld = answered_by stored.done stored.store ld

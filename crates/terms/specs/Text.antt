@@ -1,7 +1,6 @@
 -- What a text of numbers says, and that a loading comes to it, however the text is cut into pieces.
-use Rattle.std.specs.Prelude.{◌≡◌, ℕ, ◌+◌, ◌-◌, ◌^◌, ◌<◌, ◌≤◌, Bool, true, false, cond, ◌&&◌, ◌||◌, List, [], ◌∷◌, ◌++◌, map, length, take, ◌==◌, slice_index}
-use Rattle.blocked_bitpacker.specs.declared.Done.{Done}
-use Rattle.blocked_bitpacker.specs.declared.Done.TheVariants.{Accepted, Refused as NotDone}
+use Rattle.std.specs.Prelude.{◌≡◌, ℕ, ◌+◌, ◌-◌, ◌^◌, ◌<◌, ◌≤◌, Bool, true, false, cond, ◌&&◌, ◌||◌, List, [], ◌∷◌, ◌++◌, map, length, take, ◌==◌, slice_index, Ok, Err, Result}
+use Rattle.refusal.specs.declared.Refusal.{Refusal}
 use Rattle.blocked_bitpacker.specs.Calls.{Changed, new_of}
 use Rattle.decimal.specs.declared.Numeral.{Numeral}
 use Rattle.decimal.specs.declared.Numeral.TheVariants.{Number, Empty as EmptyLine, NotADigit as OtherByte, TooLarge as LargeNumber}
@@ -50,9 +49,9 @@ abbrev pub stop : Trouble → ℕ → Held → Ended
 stop trouble lines h = ended (loaded_of h.store lines trouble) h.bytes h.entries
 
 -- The store's answer to the number of the line after `lines` others, and then the lines that follow.
-abbrev pub after_answer : Changed → Done → ℕ → Held → (ℕ → Held → Ended) → Ended
-after_answer c Accepted lines h next = next (lines + 1) (held c.stored.store c.bytes c.entries)
-after_answer c (NotDone why) lines h next = stop (Refused why) lines h
+abbrev pub after_answer : Changed → Result (Unit {0}) Refusal → ℕ → Held → (ℕ → Held → Ended) → Ended
+after_answer c (Ok _) lines h next = next (lines + 1) (held c.stored.store c.bytes c.entries)
+after_answer c (Err why) lines h next = stop (Refused why) lines h
 
 abbrev pub after_number : Changed → ℕ → Held → (ℕ → Held → Ended) → Ended
 after_number c lines h next = after_answer c c.stored.done lines h next
@@ -82,9 +81,9 @@ load_lines rest [] lines h = after_last rest lines h
 load_lines rest (l ∷ ls) lines h = after_line (read_of l) lines h (load_lines rest ls)
 
 -- The same from a new store, which cannot be made on fewer than eight bytes.
-abbrev pub on_new : Done → List ℕ → Held → Ended
-on_new Accepted text h = load_lines (rest_of text) (lines_of text) 0 h
-on_new (NotDone why) text h = stop (Refused why) 0 h
+abbrev pub on_new : Result (Unit {0}) Refusal → List ℕ → Held → Ended
+on_new (Ok _) text h = load_lines (rest_of text) (lines_of text) 0 h
+on_new (Err why) text h = stop (Refused why) 0 h
 
 unfoldable pub load_of : List ℕ → List ℕ → List ℕ → Ended
 load_of text bytes entries = on_new (new_of bytes).stored.done text (begun bytes entries)

@@ -6,7 +6,7 @@ ghost use Rattle.std.specs.Prelude.{◌≡◌};
 ghost use Rattle.blocked_bitpacker.specs.Calls.{changed, refused_with};
 ghost use Rattle.terms.specs.Loading.{is_trouble, trouble_of, nothing_read, add_line_of, stopped_by, added_by, begun, begin_of, taken, said_of, bytes_of, settled_of, loaded_of, end_of};
 
-use blocked_bitpacker::{BlockedBitpacker, Counted, Done, Stored};
+use blocked_bitpacker::{BlockedBitpacker, Stored};
 use decimal::{Line, Numeral};
 use refusal::Refusal;
 use std::num::wrapping_add_usize;
@@ -57,12 +57,12 @@ pub fn is_trouble(trouble: Trouble) -> bool
     }
 }
 
-fn trouble_of(done: Done) -> Trouble
+fn trouble_of(done: Result<(), Refusal>) -> Trouble
     ensures { result ≡ trouble_of done }
 {
     match done {
-        Done::Accepted => Trouble::Nothing,
-        Done::Refused(why) => Trouble::Refused(why),
+        Ok(()) => Trouble::Nothing,
+        Err(why) => Trouble::Refused(why),
     }
 }
 
@@ -82,7 +82,7 @@ fn refused(why: Refusal, store: BlockedBitpacker) -> Stored
     ensures { result ≡ refused_with why store }
 {
     Stored {
-        done: Done::Refused(why),
+        done: Err(why),
         store,
     }
 }
@@ -92,7 +92,7 @@ fn refused(why: Refusal, store: BlockedBitpacker) -> Stored
 fn add(store: BlockedBitpacker, value: u64, bytes: &mut [u8], entries: &mut [u64]) -> Stored
     ensures { changed result bytes.new entries.new ≡ add_line_of store value bytes.old entries.old }
 {
-    if let Counted::Refused(why) = store.count(bytes, entries) {
+    if let Err(why) = store.count(bytes, entries) {
         return refused(why, store);
     }
     let blocks = store.blocks;
@@ -141,13 +141,13 @@ impl Loading {
         let store = stored.store;
         let done = stored.done;
         match done {
-            Done::Accepted => Loading {
+            Ok(()) => Loading {
                 store,
                 lines: wrapping_add_usize(self.lines, 1),
                 line: Line::new(),
                 trouble: Trouble::Nothing,
             },
-            Done::Refused(why) => self.stopped(Trouble::Refused(why)),
+            Err(why) => self.stopped(Trouble::Refused(why)),
         }
     }
 

@@ -1,13 +1,14 @@
 -- Each write moves the run on by a word. None is refused, since no word is too wide and the whole list has room, and the flush ends the stream.
+use Rattle.std.specs.Prelude.{Ok, Err, Result}
 use Rattle.std.proofs.Common.{◌≡◌, ℕ, ◌-◌, ◌*◌, ◌/◌, ◌≤◌, ◌<◌, false, List, length, get_or, refl, sym, ap, ◌∙◌, subst, arith}
+use Rattle.refusal.specs.declared.Refusal.{Refusal}
 use native.Mathlib.Nat.{sub-zero}
 use Rattle.bit_rule.specs.Bytes.{bytes_for}
 use Rattle.bit_rule.specs.Stream.{Fit, of_width}
 use Rattle.bit_rule.specs.Place.{value_at}
 use Rattle.bitpacker.specs.declared.BitPacker.{BitPacker}
 use Rattle.bitpacker.specs.declared.Written.{Written}
-use Rattle.bitpacker.specs.declared.Written.TheVariants.{Emitted, Refused}
-use Rattle.bitpacker.specs.Packer.{outcome, write_of}
+use Rattle.bitpacker.specs.Packer.{outcome, write_of, emitting}
 use Rattle.bitpacker.proofs.Run.{packed}
 use Rattle.block.proofs.Packing.{pieces, packing_starts, place_within, packing_goes_on, packing_not_refused, packing_ends}
 use Rattle.stumpvessel.specs.Host.{words_of, any_too_wide}
@@ -25,7 +26,7 @@ more_words : (list : List ℕ) (i : ℕ) → i < length list / 8 → i < length 
 more_words list i more = omega (arith, length-words_of list)
 
 -- the value that is written is the word
-wrote : (list : List ℕ) (w i word : ℕ) (packer : BitPacker) (part left : List ℕ) (r : Written) → i < length list / 8 → word ≡ value_at 64 i list
+wrote : (list : List ℕ) (w i word : ℕ) (packer : BitPacker) (part left : List ℕ) (r : Result Written Refusal) → i < length list / 8 → word ≡ value_at 64 i list
     → outcome r left ≡ write_of packer word w part
     → outcome r left ≡ write_of packer (get_or (words_of list) i 0 - 0) w part
 wrote list w i word packer part left r more is ensured =
@@ -50,8 +51,8 @@ pub loop-i-preserved : goal.loop-i-preserved
 loop-i-preserved c =
     packing_goes_on _ _ _ _ (fit c.args.list.now c.args.width c.requires.width_bound.1) c.requires.width_bound.0
     (room c.args.list.now c.args.width c.args.output.now c.requires.width_in_bounds) c.loop-i.invariant
-    (more_words c.args.list.now c.loop-i.i c.loop-i-test.true) (Emitted _ _) _
-    (wrote c.args.list.now c.args.width c.loop-i.i c.word_at.result _ _ _ (Emitted _ _) c.loop-i-test.true c.word_at.ensures c.in-Emitted.ensures)
+    (more_words c.args.list.now c.loop-i.i c.loop-i-test.true) (emitting _ _) _
+    (wrote c.args.list.now c.args.width c.loop-i.i c.word_at.result _ _ _ (emitting _ _) c.loop-i-test.true c.word_at.ensures c.in-Ok.ensures)
     c.write.auto.output _ _ refl
 
 pub overflow_add-at : goal.overflow_add-at
@@ -59,8 +60,8 @@ overflow_add-at c =
     let next =
     packing_goes_on _ _ _ _ (fit c.args.list.now c.args.width c.requires.width_bound.1) c.requires.width_bound.0
     (room c.args.list.now c.args.width c.args.output.now c.requires.width_in_bounds) c.loop-i.invariant
-    (more_words c.args.list.now c.loop-i.i c.loop-i-test.true) (Emitted _ _) _
-    (wrote c.args.list.now c.args.width c.loop-i.i c.word_at.result _ _ _ (Emitted _ _) c.loop-i-test.true c.word_at.ensures c.in-Emitted.ensures)
+    (more_words c.args.list.now c.loop-i.i c.loop-i-test.true) (emitting _ _) _
+    (wrote c.args.list.now c.args.width c.loop-i.i c.word_at.result _ _ _ (emitting _ _) c.loop-i-test.true c.word_at.ensures c.in-Ok.ensures)
     c.write.auto.output _ _ refl in
     omega (
       arith,
@@ -69,13 +70,13 @@ overflow_add-at c =
       next.same,
     )
 
-pub returns-in-Refused : goal.returns-in-Refused
-returns-in-Refused c =
+pub returns-in-Err : goal.returns-in-Err
+returns-in-Err c =
     absurd
     (packing_not_refused _ _ _ _ (fit c.args.list.now c.args.width c.requires.width_bound.1) c.requires.width_bound.0
     (room c.args.list.now c.args.width c.args.output.now c.requires.width_in_bounds) c.loop-i.invariant
-    (more_words c.args.list.now c.loop-i.i c.loop-i-test.true) (Refused _) _
-    (wrote c.args.list.now c.args.width c.loop-i.i c.word_at.result _ _ _ (Refused _) c.loop-i-test.true c.word_at.ensures c.in-Refused.ensures)
+    (more_words c.args.list.now c.loop-i.i c.loop-i-test.true) (Err _) _
+    (wrote c.args.list.now c.args.width c.loop-i.i c.word_at.result _ _ _ (Err _) c.loop-i-test.true c.word_at.ensures c.in-Err.ensures)
     _ refl)
 
 pub slice_bounds-flush-count : goal.slice_bounds-flush-count

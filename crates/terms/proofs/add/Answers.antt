@@ -4,8 +4,8 @@ use Rattle.blocked_bitpacker.proofs.Counting.{counted}
 use Rattle.terms.proofs.Laws.{same_changed, damaged_refused, past_limit_refused, no_entry_refused, entry_there}
 use Rattle.terms.proofs.add.Goals as goal
 
-pub returns-in-Refused : goal.returns-in-Refused
-returns-in-Refused c = same_changed _ _ c.refused.ensures ∙ damaged_refused _ _ _ _ _ (sym c.in-Refused.ensures)
+pub returns-in-Err : goal.returns-in-Err
+returns-in-Err c = same_changed _ _ c.refused.ensures ∙ damaged_refused _ _ _ _ _ (sym c.in-Err.ensures)
 
 pub returns-then-blocks-ge-MAX_BLOCKS : goal.returns-then-blocks-ge-MAX_BLOCKS
 returns-then-blocks-ge-MAX_BLOCKS c =

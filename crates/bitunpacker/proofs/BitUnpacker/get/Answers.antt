@@ -1,11 +1,11 @@
 -- The refusals are the three tests in their order; the third cannot hold where eight bytes from the value's first one on are there. Past them
 -- the value is read from those eight bytes, or from what is there of them (`read_value`).
+use Rattle.std.specs.Prelude.{Ok}
 use Rattle.std.proofs.Common.{◌≡◌, ℕ, ◌+◌, ◌*◌, ◌/◌, ◌%◌, ◌^◌, ◌≤◌, true, false, leb, List, length, take, drop, bit_and, sym, ap, ◌∙◌, arith, le-leb, add-mul, one-mul}
 use Rattle.bit_rule.specs.Bytes.{AreBytes, number, bytes_for}
 use Rattle.bit_rule.specs.Place.{value_at}
 use Rattle.bit_rule.proofs.Place.{legal_span}
 use Rattle.bitunpacker.specs.declared.BitUnpacker.{BitUnpacker}
-use Rattle.bitunpacker.specs.declared.Got.TheVariants.{Value}
 use Rattle.bitunpacker.specs.Unpacker.{bad_width, damaged_mask, Sound, get_of}
 use Rattle.bitunpacker.proofs.Laws.{sound, read_value, inside, outside}
 use Rattle.bitunpacker.proofs.BitUnpacker.get.Goals as goal
@@ -46,7 +46,7 @@ returns-then-at-data c =
     let mask_ok : damaged_mask c.args.self ≡ false = sym c.has_damaged_mask.ensures ∙ c.if-has_damaged_mask.false in
     let good = sound c.args.self width_ok mask_ok in
     let whole = within-eight c.args.self c.args.idx c.args.data.now good c.if-at-data.true in
-    simp (width_ok, mask_ok, whole) (ap Value (value_read c.args.self c.args.idx c.args.data.now _ (λ k. (c.type_inv.data k).fits) good c.word_at.ensures))
+    simp (width_ok, mask_ok, whole) (ap Ok (value_read c.args.self c.args.idx c.args.data.now _ (λ k. (c.type_inv.data k).fits) good c.word_at.ensures))
 
 pub returns-then-data-bit : goal.returns-then-data-bit
 unfolding get_of
@@ -62,4 +62,4 @@ returns c =
     let mask_ok : damaged_mask c.args.self ≡ false = sym c.has_damaged_mask.ensures ∙ c.if-has_damaged_mask.false in
     let good = sound c.args.self width_ok mask_ok in
     simp (width_ok, mask_ok, inside _ _ (last_byte c.args.idx c.args.self.num_bits) c.if-data-bit.false)
-    (ap Value (value_read c.args.self c.args.idx c.args.data.now _ (λ k. (c.type_inv.data k).fits) good c.tail_at.ensures))
+    (ap Ok (value_read c.args.self c.args.idx c.args.data.now _ (λ k. (c.type_inv.data k).fits) good c.tail_at.ensures))

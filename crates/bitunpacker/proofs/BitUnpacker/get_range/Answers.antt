@@ -1,6 +1,7 @@
 -- The refusals and the empty output are the four tests in their order. Past them `fill` writes the stretch.
+use Rattle.std.specs.Prelude.{Ok}
 use Rattle.std.proofs.Common.{◌≡◌, true, false, sym, ap, ◌∙◌, eq-eqb, ne_eqb}
-use Rattle.bitunpacker.specs.declared.Filled.TheVariants.{Done}
+use Rattle.refusal.specs.Done.{done}
 use Rattle.bitunpacker.specs.Unpacker.{bad_width, damaged_mask, range, get_range_of}
 use Rattle.bitunpacker.proofs.Laws.{inside, outside}
 use Rattle.bitunpacker.proofs.BitUnpacker.get_range.Goals as goal
@@ -38,4 +39,4 @@ returns c =
     let width_ok : bad_width c.args.self ≡ false = sym c.has_bad_width.ensures ∙ c.if-has_bad_width.false in
     let mask_ok : damaged_mask c.args.self ≡ false = sym c.has_damaged_mask.ensures ∙ c.if-has_damaged_mask.false in
     simp (width_ok, mask_ok, ne_eqb _ _ c.if-output-eq0.false, inside _ _ c.column_bytes.ensures c.if-data-column_bytes.false)
-    (ap (range Done) c.fill.ensures)
+    (ap (range done) c.fill.ensures)

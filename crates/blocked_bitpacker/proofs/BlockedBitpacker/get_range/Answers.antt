@@ -1,7 +1,8 @@
 -- The refusals and the empty output are the four tests in their order; the end of the range is judged by what the count leaves after the
 -- start, so that no sum wraps. Past them `read_all` fills the output.
+use Rattle.std.specs.Prelude.{Ok}
 use Rattle.std.proofs.Common.{◌+◌, ◌≤◌, length, sym, ap, eq-eqb, ne_eqb, lt-ltb, le-ltb, arith}
-use Rattle.bitunpacker.specs.declared.Filled.TheVariants.{Done}
+use Rattle.refusal.specs.Done.{done}
 use Rattle.bitunpacker.specs.Unpacker.{range}
 use Rattle.blocked_bitpacker.specs.Store.{count_of}
 use Rattle.blocked_bitpacker.specs.Calls.{get_range_of}
@@ -57,4 +58,4 @@ returns c =
       le-ltb _ _ within,
       sym c.if-touches_damage.ensures,
     )
-    (ap (range Done) c.read_all.ensures)
+    (ap (range done) c.read_all.ensures)

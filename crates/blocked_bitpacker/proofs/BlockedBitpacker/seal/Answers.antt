@@ -37,13 +37,13 @@ slice_bounds-seal-start c = within (judged _ _ _ c.requires)
 
 pub overflow_mul-entries : goal.overflow_mul-entries
 overflow_mul-entries c =
-    omega (arith, narrow c.args.values.now (sealed_in _ _ _ _ _ _ _ c.seal.ensures c.in-Sealed.is))
+    omega (arith, narrow c.args.values.now (sealed_in _ _ _ _ _ _ _ c.seal.ensures c.in-Ok.is))
 
 pub overflow_add-entries : goal.overflow_add-entries
 overflow_add-entries c =
     omega (
       arith,
-      narrow c.args.values.now (sealed_in _ _ _ _ _ _ _ c.seal.ensures c.in-Sealed.is),
+      narrow c.args.values.now (sealed_in _ _ _ _ _ _ _ c.seal.ensures c.in-Ok.is),
       small_used (judged _ _ _ c.requires),
     )
 
@@ -51,17 +51,17 @@ pub overflow_add-result : goal.overflow_add-result
 overflow_add-result c =
     omega (
       arith,
-      small_size c.args.self.used c.args.bytes.now (sealed_in _ _ _ _ _ _ _ c.seal.ensures c.in-Sealed.is),
+      small_size c.args.self.used c.args.bytes.now (sealed_in _ _ _ _ _ _ _ c.seal.ensures c.in-Ok.is),
       small_used (judged _ _ _ c.requires),
     )
 
-pub returns-in-Refused : goal.returns-in-Refused
-returns-in-Refused c =
-    simp c.refused-in-Refused.ensures
+pub returns-in-Err : goal.returns-in-Err
+returns-in-Err c =
+    simp c.refused-in-Err.ensures
     (seal_without_room _ _ _ _ _ (judged _ _ _ c.requires) c.if-blocks-ge-MAX_BLOCKS.false c.if-entries-at.false _ _
-    (not_sealed_in _ _ _ _ _ c.seal.ensures c.in-Refused.is))
+    (not_sealed_in _ _ _ _ _ c.seal.ensures c.in-Err.is))
 
-pub returns-in-Sealed : goal.returns-in-Sealed
-returns-in-Sealed c =
+pub returns-in-Ok : goal.returns-in-Ok
+returns-in-Ok c =
     seal_with_room _ _ _ _ _ (judged _ _ _ c.requires) c.if-blocks-ge-MAX_BLOCKS.false c.if-entries-at.false _ _ _ _
-    (sealed_in _ _ _ _ _ _ _ c.seal.ensures c.in-Sealed.is)
+    (sealed_in _ _ _ _ _ _ _ c.seal.ensures c.in-Ok.is)

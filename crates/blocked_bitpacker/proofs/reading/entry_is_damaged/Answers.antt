@@ -32,8 +32,8 @@ overflow_add-result c =
     let k = c.args.k in
     omega (arith, block_bits c.args.store k c.args.entries.now c.requires.0 c.block_length-n.ensures (c.type_inv.entries (k * 2)) c.entry_at-entry.ensures.1)
 
-pub overflow_add-result-in-Unpacker : goal.overflow_add-result-in-Unpacker
-overflow_add-result-in-Unpacker c =
+pub overflow_add-result-in-Ok : goal.overflow_add-result-in-Ok
+overflow_add-result-in-Ok c =
     let k = c.args.k in
     omega (
       arith,
@@ -42,12 +42,12 @@ overflow_add-result-in-Unpacker c =
       offset_small k c.args.entries.now,
     )
 
-pub returns-in-Refused : goal.returns-in-Refused
-returns-in-Refused c =
-    sym (damaged_width c.args.store.used _ c.args.k c.args.entries.now c.entry_at-entry.ensures.1 _ c.in-Refused.ensures)
+pub returns-in-Err : goal.returns-in-Err
+returns-in-Err c =
+    sym (damaged_width c.args.store.used _ c.args.k c.args.entries.now c.entry_at-entry.ensures.1 _ c.in-Err.ensures)
 
-pub returns-in-Unpacker : goal.returns-in-Unpacker
-returns-in-Unpacker c =
+pub returns-in-Ok : goal.returns-in-Ok
+returns-in-Ok c =
     sym
     (damaged_end c.args.store.used _ c.args.k c.args.entries.now c.entry_at-entry.ensures.1 _ c.entry_at-entry.ensures.0
-    c.block_length-n.ensures c.in-Unpacker.ensures)
+    c.block_length-n.ensures c.in-Ok.ensures)
