@@ -5,8 +5,8 @@ use crate::line::{at, at_most, low_u8};
 use crate::say::{say, say_one};
 use crate::state::State;
 use bitpacker::{BitPacker, Written};
-use std::num::wrapping_add_usize;
 use refusal::Refusal;
+use std::num::wrapping_add_usize;
 
 // Byte i of eight to a word, least first. The words are gone through again and again.
 fn byte_of(words: &[u64], i: usize) -> u8 {
@@ -44,7 +44,12 @@ pub fn set_entries(step: &[u64], entries: &mut [u64]) {
 }
 
 // `ROOM WIDTH VALUE`, or `ROOM` of a flush: so many bytes are lent.
-fn write(packer: BitPacker, flushes: bool, step: &[u64], output: &mut [u8]) -> Result<Written, Refusal> {
+fn write(
+    packer: BitPacker,
+    flushes: bool,
+    step: &[u64],
+    output: &mut [u8],
+) -> Result<Written, Refusal> {
     if flushes {
         return packer.flush(output);
     }

@@ -5,8 +5,8 @@ use crate::line::{at, at_most, low_u32};
 use crate::say::{say, say_places};
 use crate::state::State;
 use bitunpacker::BitUnpacker;
-use std::num::wrapping_add_u64;
 use refusal::Refusal;
+use std::num::wrapping_add_u64;
 
 // An unpacker by its fields, which may be forged.
 fn unpacker_of(state: State) -> BitUnpacker {
@@ -16,7 +16,13 @@ fn unpacker_of(state: State) -> BitUnpacker {
     }
 }
 
-fn get_one(state: State, of_store: bool, index: u64, bytes: &[u8], entries: &[u64]) -> Result<u64, Refusal> {
+fn get_one(
+    state: State,
+    of_store: bool,
+    index: u64,
+    bytes: &[u8],
+    entries: &[u64],
+) -> Result<u64, Refusal> {
     if of_store {
         return state.store.get(index as usize, bytes, entries);
     }

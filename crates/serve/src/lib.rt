@@ -14,8 +14,8 @@ use blocked_bitpacker::BlockedBitpacker;
 use desk::Request;
 use file::{byte_area, entry_area, position_area};
 use notices::{ANSWERED, REFUSED};
-use std::rt::Files;
 use refusal::Refusal;
+use std::rt::Files;
 
 fn get(
     out: i32,

@@ -60,7 +60,7 @@ module _ (h : Held) (lines : ℕ) (line : Line) (short : lines + 1 < 2 ^ 64) (fi
   answered : (v : ℕ) (done : Result (Unit {0}) Refusal) → (addLineIn h v).stored.done ≡ done
       → finish (taken (answered_by done (addLineIn h v).stored.store here) (addLineIn h v).bytes (addLineIn h v).entries)
       ≡ after_answer (addLineIn h v) done lines h next
-  answered v done is =
+  answered v (Ok _) is =
       let k = held (addLineIn h v).stored.store (addLineIn h v).bytes (addLineIn h v).entries in
       ap (λ n. finish (going k n new_line)) (mod-eq_of_lt short) ∙ goes_on k
   answered v (Err why) is =
