@@ -3,32 +3,21 @@
 use Prim.Native.Nat.{ℕ, ◌≤◌, ◌<◌}
 use native.Mathlib.Nat.{not-suc-le-zero}
 use native.Mathlib.Omega.{arith}
-use mathlib.Core.Path.{◌≡◌, refl}
-use mathlib.Core.Bool.{Bool, true}
+use mathlib.Core.Path.{◌≡◌, refl, ap, ◌∙◌}
 use mathlib.Core.List.{List, [], ◌∷◌}
 use mathlib.Core.Option.{Option, none, some}
 use lib.Dec.{ltb}
 use lib.ListN.{length, get_or}
-use borrow.Author.Tests.{ltb-true, ltb-false, lt-ltb, le-ltb}
-use Rattle.num_bits.specs.MinMax.{lowest, highest, answer_u64, minmax_u64}
-use Rattle.num_bits.specs.declared.MinMaxU64.TheVariants.{Nothing, Of}
-use Rattle.num_bits.proofs.Laws.{Order, AllCount, Extremes, extremes_exist, lowest_bounds, lowest_occurs, highest_bounds, highest_occurs}
-
--- every whole number counts
-abbrev pub every : ℕ → Bool
-every n = true
+use borrow.Author.Tests.{ltb-false}
+use Rattle.std.specs.Prelude.{None, Some}
+use Rattle.std.specs.Option.{unwrap_or}
+use Rattle.num_bits.specs.MinMax.{lowest, highest, both, minmax_u64}
+use Rattle.num_bits.specs.Ranked.{every, whole_order}
+use Rattle.num_bits.proofs.Laws.{AllCount, Extremes, extremes_exist, lowest_bounds, lowest_occurs, highest_bounds, highest_occurs}
 
 pub all_count : (xs : List ℕ) → AllCount every xs
 all_count [] = tt
 all_count (x ∷ xs) = (refl, all_count xs)
-
-pub whole_order : Order every ltb
-whole_order =
-    record {
-      irreflexive = λ x. le-ltb x x (omega arith);
-      transitive = λ x y z x<y y<z. lt-ltb x z (omega (arith, ltb-true));
-      cotransitive = λ x y z y-counts x<z y≮z. lt-ltb x y (omega (arith, ltb-true, ltb-false));
-    }
 
 -- ---- the bounds
 
@@ -58,37 +47,34 @@ lowest_le_highest xs low high bounds = let (i, within, is) = bounds.lowest_occur
 
 -- ---- the answer
 
-pub minmax_empty : (xs : List ℕ) → length xs ≡ 0 → minmax_u64 xs ≡ Nothing
-unfolding minmax_u64
-minmax_empty [] empty = refl
-minmax_empty (x ∷ xs) empty = absurd (omega arith)
-
-pub minmax_is : (xs : List ℕ) (low high : ℕ) → Extremes ltb xs low high → minmax_u64 xs ≡ Of low high
+pub minmax_is : (xs : List ℕ) (low high : ℕ) → Extremes ltb xs low high → minmax_u64 xs ≡ Some (low, high)
 unfolding minmax_u64
 minmax_is xs low high extremes = rw (extremes.lowest_is, extremes.highest_is)
 
-pub minmax_extremes : (xs : List ℕ) (low high : ℕ) → minmax_u64 xs ≡ Of low high → Extremes ltb xs low high
+pub minmax_extremes : (xs : List ℕ) (low high : ℕ) → minmax_u64 xs ≡ Some (low, high) → Extremes ltb xs low high
 unfolding minmax_u64
 minmax_extremes xs low high answer = by_parts (lowest ltb xs) (highest ltb xs) refl refl answer
   where
-    by_parts : (l h : Option ℕ) → lowest ltb xs ≡ l → highest ltb xs ≡ h → answer_u64 l h ≡ Of low high → Extremes ltb xs low high
+    by_parts : (l h : Option ℕ) → lowest ltb xs ≡ l → highest ltb xs ≡ h → both l h ≡ Some (low, high) → Extremes ltb xs low high
     by_parts none none l-is h-is a = absurd (let z : ◌≡◌ {A = ℕ} 0 1 = cc in omega arith)
     by_parts none (some h) l-is h-is a = absurd (let z : ◌≡◌ {A = ℕ} 0 1 = cc in omega arith)
     by_parts (some l) none l-is h-is a = absurd (let z : ◌≡◌ {A = ℕ} 0 1 = cc in omega arith)
-    by_parts (some l) (some h) l-is h-is a = record { lowest_is = cc; highest_is = cc }
+    by_parts (some l) (some h) l-is h-is a =
+        let pair : (l, h) ≡ (low, high) = ap (λ r. unwrap_or r (l, h)) a in
+        record { lowest_is = l-is ∙ ap (λ p. some p.0) pair; highest_is = h-is ∙ ap (λ p. some p.1) pair }
 
 -- what the answer says of the list
-pub minmax_bounds : (xs : List ℕ) (low high : ℕ) → minmax_u64 xs ≡ Of low high → Bounds xs low high
+pub minmax_bounds : (xs : List ℕ) (low high : ℕ) → minmax_u64 xs ≡ Some (low, high) → Bounds xs low high
 minmax_bounds xs low high answer = extremes_bounds xs low high (minmax_extremes xs low high answer)
 
 -- a list that is not empty has an answer
-pub minmax_exists : (xs : List ℕ) → 0 < length xs → (low : ℕ) × (high : ℕ) × (minmax_u64 xs ≡ Of low high) × Bounds xs low high
+pub minmax_exists : (xs : List ℕ) → 0 < length xs → (low : ℕ) × (high : ℕ) × (minmax_u64 xs ≡ Some (low, high)) × Bounds xs low high
 minmax_exists [] some-there = absurd (not-suc-le-zero some-there)
 minmax_exists (x ∷ xs) some-there =
     let (low, high, extremes) = extremes_exist ltb whole_order x xs (all_count (x ∷ xs)) in
     (low, high, minmax_is (x ∷ xs) low high extremes, extremes_bounds (x ∷ xs) low high extremes)
 
-pub minmax_nothing : (xs : List ℕ) → minmax_u64 xs ≡ Nothing → length xs ≡ 0
+pub minmax_nothing : (xs : List ℕ) → minmax_u64 xs ≡ None → length xs ≡ 0
 minmax_nothing [] nothing = refl
 minmax_nothing (x ∷ xs) nothing =
     let (low, high, answer, bounds) = minmax_exists (x ∷ xs) (omega arith) in

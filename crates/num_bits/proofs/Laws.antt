@@ -13,14 +13,9 @@ use lib.ListN.{length, get_or}
 use lib.Seq.{append_snoc}
 use borrow.Author.Tests.{not-true}
 use Rattle.num_bits.specs.MinMax.{none_below, first_under, lowest, highest}
+use Rattle.num_bits.specs.Order.{Order}
 
 -- ---- the order
-
--- What a comparison has to be for the laws. At a y that is NaN only `cotransitive` fails, so it asks that y counts.
-pub record Order {A : Type 0} (counts : A → Bool) (below : A → A → Bool) : Type 0 where
-  pub irreflexive : (x : A) → below x x ≡ false
-  pub transitive : (x y z : A) → below x y ≡ true → below y z ≡ true → below x z ≡ true
-  pub cotransitive : (x y z : A) → counts y ≡ true → below x z ≡ true → below y z ≡ false → below x y ≡ true
 
 abbrev pub turned : {A : Type 0} → (A → A → Bool) → A → A → Bool
 turned below x y = below y x
@@ -40,6 +35,8 @@ turned_order {below} order =
       transitive = λ x y z y<x z<y. order.transitive z y x z<y y<x;
       cotransitive =
           λ x y z y-counts z<x z≮y. true_if_never_false (below y x) (λ y≮x. true≢false (sym (order.cotransitive z y x y-counts z<x y≮x) ∙ z≮y));
+      left_counts = λ x y y<x. order.right_counts y x y<x;
+      right_counts = λ x y y<x. order.left_counts y x y<x;
     }
 
 -- every element of the list counts

@@ -3,12 +3,11 @@
 -- One definition over a comparison serves both: the lowest of a list is the first element that no element is below. The highest is the same
 -- with the comparison turned round.
 use Rattle.std.specs.Prelude.{ℕ, Bool, true, not, ◌&&◌, cond, List, [], ◌∷◌, ltb, Float}
+use Rattle.std.specs.List.{filter}
+use Rattle.std.specs.declared.option.Option.{Option as Answer}
+use Rattle.std.specs.declared.option.Option.TheVariants.{None, Some}
 use Rattle.std.proofs.Math.Option.{Option, none, some}
 use Rattle.std.specs.Float.Ieee.{lt, is_nan}
-use Rattle.num_bits.specs.declared.MinMaxU64.{MinMaxU64}
-use Rattle.num_bits.specs.declared.MinMaxU64.TheVariants.{Nothing as NothingU64, Of as OfU64}
-use Rattle.num_bits.specs.declared.MinMaxF64.{MinMaxF64}
-use Rattle.num_bits.specs.declared.MinMaxF64.TheVariants.{Nothing as NothingF64, Of as OfF64}
 
 -- none of ys is below x
 unfoldable pub none_below : {A : Type 0} → (A → A → Bool) → A → List A → Bool
@@ -35,23 +34,22 @@ unfolding is_nan
 numbers [] = []
 numbers (x ∷ xs) = cond (is_nan x) (numbers xs) (x ∷ numbers xs)
 
--- the answers: both, or nothing
-abbrev pub answer_u64 : Option ℕ → Option ℕ → MinMaxU64
-answer_u64 none none = NothingU64
-answer_u64 none (some h) = NothingU64
-answer_u64 (some l) none = NothingU64
-answer_u64 (some l) (some h) = OfU64 l h
+-- the answer: both, or nothing
+abbrev pub both : {A : Type 0} → Option A → Option A → Answer (A × A)
+both none none = None
+both none (some h) = None
+both (some l) none = None
+both (some l) (some h) = Some (l, h)
 
-abbrev pub answer_f64 : Option Float → Option Float → MinMaxF64
-answer_f64 none none = NothingF64
-answer_f64 none (some h) = NothingF64
-answer_f64 (some l) none = NothingF64
-answer_f64 (some l) (some h) = OfF64 l h
-
-unfoldable pub minmax_u64 : List ℕ → MinMaxU64
+unfoldable pub minmax_u64 : List ℕ → Answer (ℕ × ℕ)
 unfolding lowest highest
-minmax_u64 xs = answer_u64 (lowest ltb xs) (highest ltb xs)
+minmax_u64 xs = both (lowest ltb xs) (highest ltb xs)
 
-unfoldable pub minmax_f64 : List Float → MinMaxF64
+unfoldable pub minmax_f64 : List Float → Answer (Float × Float)
 unfolding lowest highest numbers lt
-minmax_f64 xs = answer_f64 (lowest lt (numbers xs)) (highest lt (numbers xs))
+minmax_f64 xs = both (lowest lt (numbers xs)) (highest lt (numbers xs))
+
+-- the same of any type, over those elements that count
+unfoldable pub minmax_of : {A : Type 0} → (A → A → Bool) → (A → Bool) → List A → Answer (A × A)
+unfolding lowest highest
+minmax_of below counts xs = both (lowest below (filter counts xs)) (highest below (filter counts xs))

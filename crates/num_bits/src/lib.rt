@@ -1,23 +1,44 @@
 // The width of an amplitude, and the lowest and highest of a list: src/lib.rs of the Rust.
 #![tactic(auto)]
 
-ghost use Rattle.std.specs.Prelude.{◌≡◌, cond, false, [], ◌≤◌, ◌<◌, ltb, length, take, get_or};
-ghost use Rattle.std.specs.Float.{nan};
-ghost use Rattle.std.specs.Float.Ieee.{lt, is_nan};
+ghost use Rattle.std.specs.Prelude.{◌≡◌, Bool, cond};
+ghost use Rattle.std.specs.List.{position};
 ghost use Rattle.bit_rule.specs.Width.{width_of};
-ghost use Rattle.num_bits.specs.MinMax.{minmax_u64, minmax_f64, numbers};
+ghost use Rattle.num_bits.specs.MinMax.{minmax_of};
+ghost use Rattle.num_bits.specs.Order.{Ranks};
 
-// The lowest and the highest of a list, or nothing where the list has none.
-#[derive(Clone, Copy)]
-pub enum MinMaxU64 {
-    Nothing,
-    Of(u64, u64),
+// A type whose `<` ranks its numbers, so that of some of them one is the lowest and one the highest.
+// PartialOrd alone says less: by it a may be below c, and b neither above a nor below c.
+pub trait Ranked: PartialOrd {
+    // A value that is no number, as NaN, is below nothing and above nothing, and differs from itself.
+    ghost is_number: { Self → Bool };
+
+    // What `<` answers.
+    ghost below: { Self → Self → Bool };
+
+    ghost ranks: { Ranks Self.eq Self.partial_cmp is_number below };
 }
 
-#[derive(Clone, Copy)]
-pub enum MinMaxF64 {
-    Nothing,
-    Of(f64, f64),
+impl Ranked for u64 {
+    ghost use Rattle.std.specs.Prelude.{ltb};
+    ghost use Rattle.num_bits.specs.Ranked.{every, whole_ranks};
+
+    ghost is_number = { every };
+
+    ghost below = { ltb };
+
+    ghost ranks = { whole_ranks };
+}
+
+impl Ranked for f64 {
+    ghost use Rattle.std.specs.Float.Ieee.{lt};
+    ghost use Rattle.num_bits.specs.Ranked.{no_nan, float_ranks};
+
+    ghost is_number = { no_nan };
+
+    ghost below = { lt };
+
+    ghost ranks = { float_ranks };
 }
 
 // The fewest bits that hold every value up to n, among the widths that can be read: document 01's
@@ -25,93 +46,44 @@ pub enum MinMaxF64 {
 pub fn compute_num_bits(n: u64) -> u8
     ensures { result ≡ width_of n }
 {
-    let amplitude = 64 - u64::leading_zeros(n);
+    let amplitude = 64 - n.leading_zeros();
     if amplitude <= 56 { amplitude as u8 } else { 64 }
-}
-
-fn lower_u64(a: u64, b: u64) -> u64
-    ensures { result ≡ cond (ltb a b) a b }
-{
-    if a < b { a } else { b }
-}
-
-fn higher_u64(a: u64, b: u64) -> u64
-    ensures { result ≡ cond (ltb b a) a b }
-{
-    if b < a { a } else { b }
-}
-
-// The lowest and the highest of some numbers.
-pub fn minmax_u64(vals: &[u64]) -> MinMaxU64
-    ensures { result ≡ minmax_u64 vals.now }
-{
-    let n = vals.len();
-    if n == 0 {
-        return MinMaxU64::Nothing;
-    }
-    let first_el = vals[0];
-    let mut min_so_far = first_el;
-    let mut max_so_far = first_el;
-    let mut i = 1;
-    while i < n {
-        let val = vals[i];
-        min_so_far = lower_u64(val, min_so_far);
-        max_so_far = higher_u64(val, max_so_far);
-        i += 1;
-    }
-    MinMaxU64::Of(min_so_far, max_so_far)
 }
 
 // The lower of a value and the lowest so far, which is kept where the two are equal and where the
 // value is NaN, since no comparison with a NaN holds.
-fn lower_f64(val: f64, so_far: f64) -> f64
-    ensures { result ≡ cond (lt val so_far) val so_far }
+fn lower<T: Ranked + Copy>(val: T, so_far: T) -> T
+    ensures { result ≡ cond (T.below val so_far) val so_far }
 {
     if val < so_far { val } else { so_far }
 }
 
-fn higher_f64(val: f64, so_far: f64) -> f64
-    ensures { result ≡ cond (lt so_far val) val so_far }
+fn higher<T: Ranked + Copy>(val: T, so_far: T) -> T
+    ensures { result ≡ cond (T.below so_far val) val so_far }
 {
     if so_far < val { val } else { so_far }
 }
 
-// Where the first value that is no NaN stands, and the length where there is none. Only a NaN
-// differs from itself.
-fn first_number(vals: &[f64]) -> usize
-    ensures within { result ≤ length vals.now }
-    ensures skipped { numbers (take result vals.now) ≡ [] }
-    ensures number { result < length vals.now → is_nan (get_or vals.now result nan) ≡ false }
+// Where the first number stands. Only what is no number, as NaN, differs from itself.
+fn first_number<T: Ranked>(vals: &[T]) -> Option<usize>
+    ensures { result ≡ position T.is_number vals.now }
 {
-    let mut i = 0;
-    while i < vals.len() {
-        let val = vals[i];
-        if val == val {
-            return i;
-        }
-        i += 1;
-    }
-    i
+    vals.iter().position(|val| *val == *val)
 }
 
-// The lowest and the highest of some floats, NaN left out. Of equal values the one met first is
-// kept.
-pub fn minmax_f64(vals: &[f64]) -> MinMaxF64
-    ensures { result ≡ minmax_f64 vals.now }
+// The lowest and the highest of some values, NaN left out, or nothing where that leaves none. Of equal
+// values the one met first is kept.
+pub fn minmax<T: Ranked + Copy>(vals: &[T]) -> Option<(T, T)>
+    ensures { result ≡ minmax_of T.below T.is_number vals.now }
 {
-    let first = first_number(vals);
-    if first == vals.len() {
-        return MinMaxF64::Nothing;
-    }
+    let first = first_number(vals)?;
     let first_el = vals[first];
     let mut min_so_far = first_el;
     let mut max_so_far = first_el;
-    let mut i = first + 1;
-    while i < vals.len() {
-        let val = vals[i];
-        min_so_far = lower_f64(val, min_so_far);
-        max_so_far = higher_f64(val, max_so_far);
-        i += 1;
+    let rest = &vals[first + 1..];
+    for val in rest {
+        min_so_far = lower(*val, min_so_far);
+        max_so_far = higher(*val, max_so_far);
     }
-    MinMaxF64::Of(min_so_far, max_so_far)
+    Some((min_so_far, max_so_far))
 }
