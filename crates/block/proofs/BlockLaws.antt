@@ -11,8 +11,8 @@ use Rattle.bit_rule.specs.Place.{value_at}
 use Rattle.bit_rule.proofs.Width.{width_of_legal, legal_le}
 use Rattle.bit_rule.proofs.Stream.{total_bits-of_width, length-stream_bytes}
 use Rattle.bit_rule.proofs.Place.{read_column, value_at-append}
-use Rattle.num_bits.specs.declared.MinMaxU64.{MinMaxU64}
-use Rattle.num_bits.specs.declared.MinMaxU64.TheVariants.{Nothing, Of}
+use Rattle.std.specs.declared.option.Option.{Option}
+use Rattle.std.specs.Prelude.{Some, None}
 use Rattle.num_bits.specs.MinMax.{minmax_u64}
 use Rattle.num_bits.proofs.Bounds.{minmax_bounds}
 use Rattle.block.specs.Block.{base_of, block_width, differences, block_size, block_bytes, words_per_entry, entry_words, entry_offset, entry_width, entry_base, damaged_entry, above_base, block_value}
@@ -57,9 +57,9 @@ pub record Spread (vs : List ℕ) : Type 0 where
 spread : (vs : List ℕ) → AreWords vs → Spread vs
 spread vs words = by_answer (minmax_u64 vs) refl
   where
-    by_answer : (r : MinMaxU64) → minmax_u64 vs ≡ r → Spread vs
-    by_answer Nothing is = record { low = 0; high = 0; extent = extent_of_none vs is; word = omega arith }
-    by_answer (Of low high) is =
+    by_answer : (r : Option (ℕ × ℕ)) → minmax_u64 vs ≡ r → Spread vs
+    by_answer None is = record { low = 0; high = 0; extent = extent_of_none vs is; word = omega arith }
+    by_answer (Some (low, high)) is =
         let (i, within, top) = (minmax_bounds vs low high is).highest_occurs in
         record { low = low; high = high; extent = extent_of vs low high is; word = subst (λ n. n < 2 ^ 64) top (words i) }
 

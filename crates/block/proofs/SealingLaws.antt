@@ -14,7 +14,7 @@ use Rattle.bit_rule.proofs.Stream.{total_bits-of_width, length-stream_bytes}
 use Rattle.bit_rule.proofs.Parts.{rest_from, rest_from_is, put_rest}
 use Rattle.bit_rule.proofs.Width.{legal_le, width_of_legal, width_of_bound}
 use Rattle.num_bits.specs.MinMax.{lowest, highest, first_under, minmax_u64}
-use Rattle.num_bits.specs.declared.MinMaxU64.TheVariants.{Nothing, Of}
+use Rattle.std.specs.Prelude.{Some, None}
 use Rattle.num_bits.proofs.Bounds.{minmax_extremes, minmax_bounds, minmax_nothing, lowest_le_highest}
 use Rattle.bitpacker.proofs.Run.{packed}
 use Rattle.refusal.specs.declared.Refusal.TheVariants.{NoRoom}
@@ -23,7 +23,7 @@ use Rattle.block.specs.Calls.{outcome, cleared_of, Extent, seal_of, sealed_as}
 
 -- ---- the lowest and the highest
 
-pub extent_of : (vs : List ℕ) (low high : ℕ) → minmax_u64 vs ≡ Of low high → Extent low high vs
+pub extent_of : (vs : List ℕ) (low high : ℕ) → minmax_u64 vs ≡ Some (low, high) → Extent low high vs
 unfolding base_of
 extent_of vs low high is =
     let extremes = minmax_extremes vs low high is in
@@ -36,7 +36,7 @@ extent_of vs low high is =
       over = bounds.highest_bound;
     }
 
-pub extent_of_none : (vs : List ℕ) → minmax_u64 vs ≡ Nothing → Extent 0 0 vs
+pub extent_of_none : (vs : List ℕ) → minmax_u64 vs ≡ None → Extent 0 0 vs
 unfolding base_of lowest highest first_under
 extent_of_none [] is =
     record {

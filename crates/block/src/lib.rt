@@ -12,7 +12,7 @@ ghost use Rattle.block.specs.Calls.{outcome, cleared_of, Extent, seal_of, read_o
 
 use bitpacker::BitPacker;
 use bitunpacker::BitUnpacker;
-use num_bits::{MinMaxU64, compute_num_bits, minmax_u64};
+use num_bits::{compute_num_bits, minmax};
 use refusal::Refusal;
 use std::num::wrapping_add_u64;
 
@@ -104,9 +104,9 @@ fn seal_between(
 pub fn seal(values: &[u64], bytes: &mut [u8]) -> Result<Sealed, Refusal>
     ensures { outcome result bytes.new ≡ seal_of values.now bytes.old }
 {
-    match minmax_u64(values) {
-        MinMaxU64::Of(lowest, highest) => seal_between(values, lowest, highest, bytes),
-        MinMaxU64::Nothing => seal_between(values, 0, 0, bytes),
+    match minmax(values) {
+        Some((lowest, highest)) => seal_between(values, lowest, highest, bytes),
+        None => seal_between(values, 0, 0, bytes),
     }
 }
 
