@@ -1,15 +1,12 @@
 -- An answer as document 01 writes it: a refusal is "its number and nothing else", and any other answer is its values. One definition for
 -- each enum of an answer gives the number and the values of each of its cases. What a call writes stands in the buffer that was lent to it.
-use Rattle.std.specs.Prelude.{ℕ, List, [], ◌∷◌, length, take, Ok, Err, Result}
+use Rattle.std.specs.Prelude.{ℕ, List, [], ◌∷◌, length, take, Float, Some, None, Ok, Err, Result}
+use Rattle.std.specs.declared.option.Option.{Option}
 use Rattle.std.specs.Float.Ieee.{to_bits}
 use Rattle.std.specs.Float.{binary64}
 use Rattle.refusal.specs.declared.Refusal.{Refusal}
 use Rattle.bit_rule.specs.Search.{at_start}
 use Rattle.refusal.specs.Number.{number_of}
-use Rattle.num_bits.specs.declared.MinMaxU64.{MinMaxU64}
-use Rattle.num_bits.specs.declared.MinMaxU64.TheVariants.{Nothing as NoWord, Of as Words}
-use Rattle.num_bits.specs.declared.MinMaxF64.{MinMaxF64}
-use Rattle.num_bits.specs.declared.MinMaxF64.TheVariants.{Nothing as NoFloat, Of as Floats}
 use Rattle.bitpacker.specs.declared.Written.{Written}
 use Rattle.bitpacker.specs.Packer.{Outcome}
 use Rattle.bitunpacker.specs.Unpacker.{Range, Search}
@@ -23,13 +20,13 @@ pub data Reply : Type 0 where
 -- ---- each enum
 
 -- The lowest and the highest, or none. Of floats, their patterns of 64 bits.
-abbrev pub words_reply : MinMaxU64 → Reply
-words_reply NoWord = values []
-words_reply (Words low high) = values (low ∷ high ∷ [])
+abbrev pub words_reply : Option (ℕ × ℕ) → Reply
+words_reply None = values []
+words_reply (Some (low, high)) = values (low ∷ high ∷ [])
 
-abbrev pub floats_reply : MinMaxF64 → Reply
-floats_reply NoFloat = values []
-floats_reply (Floats low high) = values (to_bits binary64 low ∷ to_bits binary64 high ∷ [])
+abbrev pub floats_reply : Option (Float × Float) → Reply
+floats_reply None = values []
+floats_reply (Some (low, high)) = values (to_bits binary64 low ∷ to_bits binary64 high ∷ [])
 
 -- How many bytes a write or a flush emitted, and what the packer then holds: its bits and how many they are.
 abbrev pub written_reply : Result Written Refusal → Reply

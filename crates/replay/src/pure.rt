@@ -3,19 +3,18 @@ use crate::areas;
 use crate::areas::ROOM;
 use crate::line::{at, at_most, low_u32};
 use crate::say::{say, say_one, say_places};
-use num_bits::{MinMaxF64, MinMaxU64};
 use std::num::wrapping_add_usize;
 
-fn say_both(port: MinMaxU64) {
+fn say_both(port: Option<(u64, u64)>) {
     match port {
-        MinMaxU64::Nothing => say_one(0),
-        MinMaxU64::Of(lowest, highest) => say(1, &[lowest, highest]),
+        None => say_one(0),
+        Some((lowest, highest)) => say(1, &[lowest, highest]),
     }
 }
 
 // `V0 V1 ..`, answered by 0 for none, or by 1, the lowest and the highest.
 pub fn minmax(values: &[u64]) {
-    say_both(num_bits::minmax_u64(values));
+    say_both(num_bits::minmax(values));
 }
 
 const SIGN: u64 = 0x8000_0000_0000_0000;
@@ -39,11 +38,9 @@ fn pattern_of(x: f64) -> u64 {
     if x == x { f64::to_bits(x) } else { NAN }
 }
 
-fn patterns_of(port: MinMaxF64) -> MinMaxU64 {
-    match port {
-        MinMaxF64::Nothing => MinMaxU64::Nothing,
-        MinMaxF64::Of(lowest, highest) => MinMaxU64::Of(pattern_of(lowest), pattern_of(highest)),
-    }
+fn patterns_of(port: Option<(f64, f64)>) -> Option<(u64, u64)> {
+    let (lowest, highest) = port?;
+    Some((pattern_of(lowest), pattern_of(highest)))
 }
 
 // The same of floats with these patterns.
@@ -53,7 +50,7 @@ pub fn minmax_of_patterns(patterns: &[u64]) {
     for i in 0..count {
         floats[i] = float_of(at(patterns, i));
     }
-    say_both(patterns_of(num_bits::minmax_f64(&floats[0..count])));
+    say_both(patterns_of(num_bits::minmax(&floats[0..count])));
 }
 
 // `LO HI OFFSET V0 V1 ..`: puts the values, which have 32 bits, into the places.
