@@ -6,6 +6,8 @@ use Rattle.std.specs.Float.Ieee.{lt, eq, is_nan}
 use Rattle.std.proofs.Common.{arith, inl, inr}
 use Rattle.std.proofs.lemmas.Bool.Decides.{nat_tests}
 use Rattle.std.proofs.lemmas.Float.{T_from_true, T_from_false, le_refl, lt_irrefl, le_of_lt, le_of_eq, lt-or-eq, le_left, le_right, le_of_not-lt, lt_trans, lt_of_lt_of_le}
+use Rattle.std.specs.Cmp.{both_ways}
+use lib.Ieee.Bits.{is_true}
 use borrow.Author.Tests.{ltb-true, ltb-false, lt-ltb, le-ltb, eq-eqb}
 use Rattle.num_bits.specs.Order.{Order, Ranks}
 
@@ -39,29 +41,19 @@ whole_ranks = record { less = λ x y. grind (arith, nat_tests); equal = λ x. eq
 abbrev pub no_nan : Float → Bool
 no_nan x = not (is_nan x)
 
-is_true : (b : Bool) → T b → b ≡ true
-is_true true holds = refl
-is_true false holds = absurd holds
-
 is_false : (b : Bool) → (T b → ⊥) → b ≡ false
 is_false true fails = absurd (fails tt)
 is_false false fails = refl
 
 equal_itself : (x : Float) → eq x x ≡ no_nan x
-equal_itself x = by_test (eq x x) (no_nan x) (λ equal. le_left x x (le_of_eq x x equal)) is_equal
-  where
-    by_test : (a b : Bool) → (T a → T b) → (T b → T a) → a ≡ b
-    by_test true true there back = refl
-    by_test true false there back = absurd (there tt)
-    by_test false true there back = absurd (back tt)
-    by_test false false there back = refl
-
-    is_equal : T (no_nan x) → T (eq x x)
-    is_equal number =
-        elim (lt-or-eq x x (le_refl x number)) [
-          | inl x<x ↦ absurd (lt_irrefl x x<x)
-          | inr equal ↦ equal
-        ]
+equal_itself x =
+    both_ways (eq x x) (no_nan x)
+    (λ equal. is_true (no_nan x) (le_left x x (le_of_eq x x (T_from_true (eq x x) equal))))
+    (λ number.
+    elim (lt-or-eq x x (le_refl x (T_from_true (no_nan x) number))) [
+      | inl x<x ↦ absurd (lt_irrefl x x<x)
+      | inr equal ↦ is_true (eq x x) equal
+    ])
 
 -- where y is not below z, z is at most y
 pub float_order : Order no_nan lt
