@@ -1,13 +1,13 @@
 -- A line read byte by byte says what the whole line says. By induction over what is still to come: the fields after k digits that stand for n
 -- are `so_far k n`, and what they and the rest say together is `read_from k n rest`.
-use Rattle.std.proofs.Common.{◌≡◌, ℕ, suc, ◌+◌, ◌*◌, ◌%◌, ◌^◌, ◌<◌, Bool, true, false, cond, ◌||◌, eqb, ltb, leb, List, [], ◌∷◌, ◌++◌, length, get_or, sym, refl, ap, ◌∙◌, ap₂, le_refl, mul_assoc, mul_comm, add-mul, pow-suc, arith, le-ltb, lt-ltb, ne_eqb, eqb-true, leb-false, leb-true}
+use Rattle.std.proofs.Common.{◌≡◌, ℕ, suc, ◌+◌, ◌*◌, ◌^◌, ◌<◌, Bool, true, false, cond, Some, None, is_some, unwrap_or, option_and_then, ok_or, Result, Ok, Err, eqb, ltb, leb, List, [], ◌∷◌, ◌++◌, length, get_or, sym, refl, ap, ◌∙◌, ap₂, le_refl, mul_assoc, mul_comm, add-mul, pow-suc, arith, le-ltb, lt-ltb, ne_eqb, eqb-true, leb-false, leb-true}
 use borrow.Author.Tests.{eqb-false}
 use Rattle.refusal.specs.First.{check, first_that_holds}
-use Rattle.decimal.specs.declared.Numeral.{Numeral}
-use Rattle.decimal.specs.declared.Numeral.TheVariants.{Number, Empty, NotADigit, TooLarge}
+use Rattle.decimal.specs.declared.NumeralError.{NumeralError}
+use Rattle.decimal.specs.declared.NumeralError.TheVariants.{Empty, NotADigit, TooLarge}
 use Rattle.decimal.specs.declared.line.Line.{Line}
 use Rattle.decimal.specs.Digits.{is_digit, digit_of, first_other, numeral, number_or_too_large, read_of}
-use Rattle.decimal.specs.Line.{line_of, wrong_line, cr_line, byte_of, bytes_of, ended_of, without_cr, AnEndedLineIsRead}
+use Rattle.decimal.specs.Line.{line_of, if_it_fits, wrong_line, cr_line, byte_of, bytes_of, ended_of, without_cr, AnEndedLineIsRead}
 use Rattle.decimal.proofs.Laws.{range_of_digit, byte_of_wrong, byte_after_cr, byte_is_cr, byte_is_other, byte_is_digit, ended_wrong}
 
 -- bytes after bytes
@@ -19,41 +19,41 @@ bytes_append l (x ∷ xs) ys = bytes_append (byte_of l x) xs ys
 -- ---- the fields after some bytes
 
 abbrev so_far : ℕ → ℕ → Line
-so_far k n = line_of k (cond (leb (2 ^ 64) n) 0 n) (leb (2 ^ 64) n) false false 0
+so_far k n = line_of k (if_it_fits n) false None
+
+-- a number that is too large stays so with one digit more
+fits_more : (n d : ℕ) → option_and_then (λ value. if_it_fits (value * 10 + d)) (if_it_fits n) ≡ if_it_fits (n * 10 + d)
+fits_more n d = by_large (leb (2 ^ 64) n) (leb (2 ^ 64) (n * 10 + d)) refl refl
+  where
+    by_large : (large more : Bool) → leb (2 ^ 64) n ≡ large → leb (2 ^ 64) (n * 10 + d) ≡ more
+        → option_and_then (λ value. if_it_fits (value * 10 + d)) (cond large None (Some n)) ≡ cond more None (Some (n * 10 + d))
+    by_large true true large_is more-is = refl
+    by_large true false large_is more-is = absurd (omega (arith, leb-true (2 ^ 64) n large_is, leb-false (2 ^ 64) (n * 10 + d) more-is))
+    by_large false more large_is more-is = ap (λ t. cond t None (Some (n * 10 + d))) more-is
 
 -- one digit more
 so_far_more : (k n b : ℕ) → k + 1 < 2 ^ 64 → is_digit b ≡ true → byte_of (so_far k n) b ≡ so_far (k + 1) (n * 10 + digit_of b)
 so_far_more k n b few digit =
     byte_is_digit (so_far k n) b refl refl digit
-    ∙ by_large ((k + 1) % 2 ^ 64) (leb (2 ^ 64) n) (leb (2 ^ 64) (n * 10 + digit_of b)) (omega arith) refl refl
-  where
-    by_large : (m : ℕ) (large more : Bool) → m ≡ k + 1 → leb (2 ^ 64) n ≡ large → leb (2 ^ 64) (n * 10 + digit_of b) ≡ more
-        → let number = cond large 0 n * 10 + digit_of b in
-        let too_large = large || leb (2 ^ 64) number in
-        line_of m (cond too_large 0 number) too_large false false 0 ≡ line_of (k + 1) (cond more 0 (n * 10 + digit_of b)) more false false 0
-    by_large m true true counted large_is more-is = ap (λ i. line_of i 0 true false false 0) counted
-    by_large m true false counted large_is more-is =
-        absurd (omega (arith, leb-true (2 ^ 64) n large_is, leb-false (2 ^ 64) (n * 10 + digit_of b) more-is))
-    by_large m false more counted large_is more-is =
-        ap₂ (λ i t. line_of i (cond t 0 (n * 10 + digit_of b)) t false false 0) counted more-is
+    ∙ ap₂ (λ i v. line_of i v false None) (omega arith) (fits_more n (digit_of b))
 
 -- what is wrong stays as it is
-wrong_stays : (l : Line) (bs : List ℕ) → l.wrong ≡ true → bytes_of l bs ≡ l
+wrong_stays : (l : Line) (bs : List ℕ) → is_some l.wrong ≡ true → bytes_of l bs ≡ l
 unfolding bytes_of
 wrong_stays l [] wrong = refl
 wrong_stays l (b ∷ bs) wrong = ap (λ m. bytes_of m bs) (byte_of_wrong l b wrong) ∙ wrong_stays l bs wrong
 
 -- ---- what digits so far and a rest say together
 
-said : ℕ → ℕ → ℕ → ℕ → Numeral
+said : ℕ → ℕ → ℕ → ℕ → Result ℕ NumeralError
 said size place other whole =
-    first_that_holds (check (eqb size 0) Empty ∷ check (ltb place size) (NotADigit place other) ∷ check (leb (2 ^ 64) whole) TooLarge ∷ []) (Number whole)
+    first_that_holds (check (eqb size 0) (Err Empty) ∷ check (ltb place size) (Err (NotADigit place other)) ∷ check (leb (2 ^ 64) whole) (Err TooLarge) ∷ []) (Ok whole)
 
 said_same : (size size' place place' other other' whole whole' : ℕ)
     → size ≡ size' → place ≡ place' → other ≡ other' → whole ≡ whole' → said size place other whole ≡ said size' place' other' whole'
 said_same size size' place place' other other' whole whole' s p o w = cc
 
-abbrev read_from : ℕ → ℕ → List ℕ → Numeral
+abbrev read_from : ℕ → ℕ → List ℕ → Result ℕ NumeralError
 read_from k n text = said (k + length text) (k + first_other text) (get_or text (first_other text) 0) (n * 10 ^ length text + numeral text)
 
 read_whole : (text : List ℕ) → read_from 0 0 text ≡ read_of text
@@ -74,7 +74,7 @@ read_more k n b rest digit =
     (sym (ap (λ t. get_or (b ∷ rest) (cond t (suc (first_other rest)) 0) 0) digit))
     (omega (arith, add-mul (n * 10) (digit_of b) p, mul_assoc n 10 p, ap (λ q. n * q) (pow-suc 10 (length rest)), ap (λ q. n * q) (mul_comm p 10)))
 
-read_other : (k n b : ℕ) (rest : List ℕ) → is_digit b ≡ false → read_from k n (b ∷ rest) ≡ NotADigit k b
+read_other : (k n b : ℕ) (rest : List ℕ) → is_digit b ≡ false → read_from k n (b ∷ rest) ≡ Err (NotADigit k b)
 unfolding said first_other
 read_other k n b rest other =
     let size = k + suc (length rest) in
@@ -89,9 +89,10 @@ read_end k n =
     ∙ said_same k (k + 0) k (k + 0) 0 0 n (n * 10 ^ 0 + 0) (omega arith) (omega arith) refl (omega arith)
   where
     by_tests : (none large other : Bool) → other ≡ false
-        → cond none Empty (cond large TooLarge (Number (cond large 0 n))) ≡ cond none Empty (cond other (NotADigit k 0) (cond large TooLarge (Number n)))
+        → cond none (Err Empty) (ok_or (cond large None (Some n)) TooLarge)
+        ≡ cond none (Err Empty) (cond other (Err (NotADigit k 0)) (cond large (Err TooLarge) (Ok n)))
     by_tests true large other is = refl
-    by_tests false large true is = absurd (let z : ◌≡◌ {A = ℕ} 0 1 = cc in omega arith)
+    by_tests false large true is = absurd cc
     by_tests false true false is = refl
     by_tests false false false is = refl
 
@@ -102,7 +103,8 @@ unfolding without_cr
 without_cr_more b [] differs = simp (ne_eqb b 13 differs)
 without_cr_more b (c ∷ cs) differs = refl
 
-ended_after_wrong : (l : Line) (bs : List ℕ) → l.wrong ≡ true → ended_of (bytes_of l bs) ≡ NotADigit l.digits l.other
+ended_after_wrong : (l : Line) (bs : List ℕ) → is_some l.wrong ≡ true
+    → ended_of (bytes_of l bs) ≡ Err (NotADigit l.digits (unwrap_or l.wrong 0))
 ended_after_wrong l bs wrong = ap ended_of (wrong_stays l bs wrong) ∙ ended_wrong l wrong
 
 -- a carriage return ends the line with the line feed, and may not stand elsewhere

@@ -1,13 +1,15 @@
 -- Digits up to a place, and the number that they stand for so far: each digit more is ten times that number and the digit.
-use Rattle.std.proofs.Common.{◌≡◌, ℕ, zero, suc, ◌+◌, ◌*◌, ◌%◌, ◌^◌, ◌<◌, ◌≤◌, Bool, true, false, cond, not, ◌||◌, leb, List, [], ◌∷◌, ◌++◌, length, get_or, take, drop, sym, refl, ap, ◌∙◌, subst, ap₂, ⊎_elim, zero-le, le_refl, add_assoc, mul_assoc, add-mul, le_antisymm, mul-le-mul_left, mul-one, add-one, arith, length-append, take-append-drop, take-suc, pow-add, eq-eqb, ne_eqb, le-leb, leb-false, leb-true}
+use Rattle.std.proofs.Common.{◌≡◌, ℕ, zero, suc, ◌+◌, ◌*◌, ◌^◌, ◌<◌, ◌≤◌, Bool, true, false, cond, not, leb, Option, Some, None, MatchOption, is_some, unwrap_or, option_and_then, Ok, Err, List, [], ◌∷◌, ◌++◌, length, get_or, take, drop, sym, refl, ap, ◌∙◌, ap₂, ⊎_elim, zero-le, le_refl, add_assoc, mul_assoc, add-mul, le_antisymm, mul-le-mul_left, mul-one, add-one, arith, length-append, take-append-drop, take-suc, pow-add, eq-eqb, ne_eqb, le-leb, leb-true}
 use mathlib.Core.Bool.{and-eq-true_iff}
 use native.Mathlib.Nat.{one-le-pow}
-use borrow.Author.Tests.{lt-leb, not-true, not-false}
+use borrow.Author.Tests.{lt-leb}
+use Rattle.std.specs.List.{position_or_len}
+use Rattle.std.specs.Result.{result_ok}
 use Rattle.bit_rule.proofs.Width.{le_or_lt}
 use Rattle.decimal.specs.declared.line.Line.{Line}
-use Rattle.decimal.specs.declared.Numeral.TheVariants.{Number, Empty, NotADigit, TooLarge}
+use Rattle.decimal.specs.declared.NumeralError.TheVariants.{NotADigit, TooLarge}
 use Rattle.decimal.specs.Digits.{is_digit, digit_of, first_other, numeral, append_of}
-use Rattle.decimal.specs.Line.{line_of, wrong_line, cr_line, digit_line, byte_of, ended_of}
+use Rattle.decimal.specs.Line.{if_it_fits, wrong_line, cr_line, digit_line, byte_of, ended_of}
 
 -- ---- the first byte that is no digit
 
@@ -43,24 +45,19 @@ range_of_digit b digit =
 pub digit_range : (text : List ℕ) (i : ℕ) → i < first_other text → (48 ≤ get_or text i 0) × (get_or text i 0 ≤ 57)
 digit_range text i below = range_of_digit (get_or text i 0) (digit_below text i below)
 
--- one digit more
-pub other_more : (text : List ℕ) (i : ℕ) → i ≤ first_other text → i < length text → is_digit (get_or text i 0) ≡ true → i + 1 ≤ first_other text
+-- the first byte that passes the test for a byte that is no digit, or the length
+pub other_is : (text : List ℕ) → position_or_len (λ b. not (is_digit b)) text ≡ first_other text
 unfolding first_other
-other_more [] i from within digit = absurd (omega arith)
-other_more (b ∷ bs) zero from within digit = subst (λ t. 1 ≤ cond t (suc (first_other bs)) 0) (sym digit) (omega arith)
-other_more (b ∷ bs) (suc i) from within digit = by_digit (is_digit b) from (λ f. other_more bs i f (omega arith) digit)
+other_is [] = refl
+other_is (b ∷ bs) = by_digit (is_digit b) (other_is bs)
   where
-    by_digit : (t : Bool) → suc i ≤ cond t (suc (first_other bs)) 0 → (i ≤ first_other bs → i + 1 ≤ first_other bs) → suc i + 1 ≤ cond t (suc (first_other bs)) 0
-    by_digit true start more = omega (arith, more (omega arith))
-    by_digit false start more = absurd (omega arith)
+    by_digit : (t : Bool) → position_or_len (λ b. not (is_digit b)) bs ≡ first_other bs
+        → cond (not (not t)) (1 + position_or_len (λ b. not (is_digit b)) bs) 0 ≡ cond t (suc (first_other bs)) 0
+    by_digit true rest = omega arith
+    by_digit false rest = refl
 
--- and here is none
-pub other_here : (text : List ℕ) (i : ℕ) → i ≤ first_other text → is_digit (get_or text i 0) ≡ false → i ≡ first_other text
-other_here text i from other =
-    ⊎_elim (λ there. le_antisymm from there) (λ below. absurd (differ (digit_below text i below))) (le_or_lt (first_other text) i)
-  where
-    differ : is_digit (get_or text i 0) ≡ true → ⊥
-    differ digit = let z : true ≡ false = sym digit ∙ other in let w : ◌≡◌ {A = ℕ} 0 1 = cc in omega arith
+pub other_nowhere : (text : List ℕ) → (first_other text < length text → ⊥) → first_other text ≡ length text
+other_nowhere text nowhere = ⊎_elim (λ past. le_antisymm (other_within text) past) (λ below. absurd (nowhere below)) (le_or_lt (length text) (first_other text))
 
 -- ---- the number so far
 
@@ -97,61 +94,40 @@ numeral_first text i =
 
 -- ---- what the answer about one digit more says
 
-pub record Appended (value b n : ℕ) : Type 0 where
-  pub digit : is_digit b ≡ true
-  pub number : value * 10 + digit_of b ≡ n
-  pub fits : n < 2 ^ 64
-
-pub appended : (value b n : ℕ) → append_of value b ≡ Number n → Appended value b n
+pub append_other : (value b : ℕ) → is_digit b ≡ false → append_of value b ≡ Err (NotADigit 0 b)
 unfolding append_of
-appended value b n is = by_tests (not (is_digit b)) (leb (2 ^ 64) (value * 10 + digit_of b)) refl refl is
-  where
-    by_tests : (o l : Bool) → not (is_digit b) ≡ o → leb (2 ^ 64) (value * 10 + digit_of b) ≡ l
-        → cond o (NotADigit 0 b) (cond l TooLarge (Number (value * 10 + digit_of b))) ≡ Number n
-        → Appended value b n
-    by_tests true l o_is l-is h = absurd (let z : ◌≡◌ {A = ℕ} 0 1 = cc in omega arith)
-    by_tests false true o_is l-is h = absurd (let z : ◌≡◌ {A = ℕ} 0 1 = cc in omega arith)
-    by_tests false false o_is l-is h =
-        let same : value * 10 + digit_of b ≡ n = cc in
-        record { digit = not-false _ o_is; number = same; fits = omega (arith, leb-false (2 ^ 64) (value * 10 + digit_of b) l-is) }
+append_other value b other = simp other
 
-pub appended_too_large : (value b : ℕ) → append_of value b ≡ TooLarge → (is_digit b ≡ true) × (2 ^ 64 ≤ value * 10 + digit_of b)
+pub append_fits : (value b : ℕ) → is_digit b ≡ true → value * 10 + digit_of b < 2 ^ 64 → append_of value b ≡ Ok (value * 10 + digit_of b)
 unfolding append_of
-appended_too_large value b is = by_tests (not (is_digit b)) (leb (2 ^ 64) (value * 10 + digit_of b)) refl refl is
-  where
-    by_tests : (o l : Bool) → not (is_digit b) ≡ o → leb (2 ^ 64) (value * 10 + digit_of b) ≡ l
-        → cond o (NotADigit 0 b) (cond l TooLarge (Number (value * 10 + digit_of b))) ≡ TooLarge
-        → (is_digit b ≡ true) × (2 ^ 64 ≤ value * 10 + digit_of b)
-    by_tests true l o_is l-is h = absurd (let z : ◌≡◌ {A = ℕ} 0 1 = cc in omega arith)
-    by_tests false true o_is l-is h = (not-false _ o_is, leb-true (2 ^ 64) (value * 10 + digit_of b) l-is)
-    by_tests false false o_is l-is h = absurd (let z : ◌≡◌ {A = ℕ} 0 1 = cc in omega arith)
+append_fits value b digit small = simp (digit, lt-leb (2 ^ 64) (value * 10 + digit_of b) small)
 
-pub appended_no_digit : (value b k c : ℕ) → append_of value b ≡ NotADigit k c → is_digit b ≡ false
+pub append_too_large : (value b : ℕ) → is_digit b ≡ true → 2 ^ 64 ≤ value * 10 + digit_of b → append_of value b ≡ Err TooLarge
 unfolding append_of
-appended_no_digit value b k c is = by_tests (not (is_digit b)) (leb (2 ^ 64) (value * 10 + digit_of b)) refl is
-  where
-    by_tests : (o l : Bool) → not (is_digit b) ≡ o
-        → cond o (NotADigit 0 b) (cond l TooLarge (Number (value * 10 + digit_of b))) ≡ NotADigit k c → is_digit b ≡ false
-    by_tests true l o_is h = not-true _ o_is
-    by_tests false true o_is h = absurd (let z : ◌≡◌ {A = ℕ} 0 1 = cc in omega arith)
-    by_tests false false o_is h = absurd (let z : ◌≡◌ {A = ℕ} 0 1 = cc in omega arith)
+append_too_large value b digit large = simp (digit, le-leb (2 ^ 64) (value * 10 + digit_of b) large)
 
-pub appended_never_empty : (value b : ℕ) → append_of value b ≡ Empty → ⊥
+-- what is appended is a number where it fits
+pub appended_is : (value b : ℕ) → is_digit b ≡ true → result_ok (append_of value b) ≡ if_it_fits (value * 10 + digit_of b)
 unfolding append_of
-appended_never_empty value b is = by_tests (not (is_digit b)) (leb (2 ^ 64) (value * 10 + digit_of b)) is
+appended_is value b digit = simp digit (by_size (leb (2 ^ 64) (value * 10 + digit_of b)))
   where
-    by_tests : (o l : Bool) → cond o (NotADigit 0 b) (cond l TooLarge (Number (value * 10 + digit_of b))) ≡ Empty → ⊥
-    by_tests true l h = let z : ◌≡◌ {A = ℕ} 0 1 = cc in omega arith
-    by_tests false true h = let z : ◌≡◌ {A = ℕ} 0 1 = cc in omega arith
-    by_tests false false h = let z : ◌≡◌ {A = ℕ} 0 1 = cc in omega arith
+    by_size : (large : Bool) → result_ok (cond large (Err TooLarge) (Ok (value * 10 + digit_of b))) ≡ cond large None (Some (value * 10 + digit_of b))
+    by_size true = refl
+    by_size false = refl
+
+-- the number so far with the digit, from what the step says of it
+pub added : (v o : Option ℕ) (b : ℕ) {P : Type 0} {Q : ℕ → Type 0} → is_digit b ≡ true → MatchOption v P Q → (P → o ≡ None)
+    → ((n : ℕ) → Q n → o ≡ result_ok (append_of n b)) → o ≡ option_and_then (λ n. if_it_fits (n * 10 + digit_of b)) v
+added None o b digit said none some = none said
+added (Some n) o b digit said none some = some n said ∙ appended_is n b digit
 
 -- ---- one byte more of a line
 
-pub byte_of_wrong : (l : Line) (b : ℕ) → l.wrong ≡ true → byte_of l b ≡ l
+pub byte_of_wrong : (l : Line) (b : ℕ) → is_some l.wrong ≡ true → byte_of l b ≡ l
 unfolding byte_of
 byte_of_wrong l b wrong = simp wrong
 
-module _ (l : Line) (b : ℕ) (right : l.wrong ≡ false) where
+module _ (l : Line) (b : ℕ) (right : is_some l.wrong ≡ false) where
   pub byte_after_cr : l.after_cr ≡ true → byte_of l b ≡ wrong_line l 13
   unfolding byte_of
   byte_after_cr cr = simp (right, cr)
@@ -168,42 +144,8 @@ module _ (l : Line) (b : ℕ) (right : l.wrong ≡ false) where
   unfolding byte_of
   byte_is_digit no-cr digit = simp (right, no-cr, ne_eqb b 13 (λ is. omega (arith, (range_of_digit b digit).0)), digit)
 
-  pub byte_fits : l.after_cr ≡ false → is_digit b ≡ true → l.value * 10 + digit_of b < 2 ^ 64
-      → byte_of l b ≡ line_of ((l.digits + 1) % 2 ^ 64) (cond l.too_large 0 (l.value * 10 + digit_of b)) l.too_large false false 0
-  byte_fits no-cr digit small =
-      byte_is_digit no-cr digit ∙ by_large l.too_large (leb (2 ^ 64) (l.value * 10 + digit_of b)) (lt-leb (2 ^ 64) _ small)
-    where
-      by_large : (large more : Bool) → more ≡ false
-          → line_of ((l.digits + 1) % 2 ^ 64) (cond (large || more) 0 (l.value * 10 + digit_of b)) (large || more) false false 0
-          ≡ line_of ((l.digits + 1) % 2 ^ 64) (cond large 0 (l.value * 10 + digit_of b)) large false false 0
-      by_large true more is = refl
-      by_large false more is = ap (λ t. line_of ((l.digits + 1) % 2 ^ 64) (cond t 0 (l.value * 10 + digit_of b)) t false false 0) is
-
-  pub byte_too_large : l.after_cr ≡ false → is_digit b ≡ true → 2 ^ 64 ≤ l.value * 10 + digit_of b
-      → byte_of l b ≡ line_of ((l.digits + 1) % 2 ^ 64) 0 true false false 0
-  byte_too_large no-cr digit large =
-      byte_is_digit no-cr digit ∙ by_large l.too_large (leb (2 ^ 64) (l.value * 10 + digit_of b)) (le-leb (2 ^ 64) _ large)
-    where
-      by_large : (large more : Bool) → more ≡ true
-          → line_of ((l.digits + 1) % 2 ^ 64) (cond (large || more) 0 (l.value * 10 + digit_of b)) (large || more) false false 0
-          ≡ line_of ((l.digits + 1) % 2 ^ 64) 0 true false false 0
-      by_large true more is = refl
-      by_large false more is = ap (λ t. line_of ((l.digits + 1) % 2 ^ 64) (cond t 0 (l.value * 10 + digit_of b)) t false false 0) is
-
 -- ---- what a line's end says
 
-pub ended_wrong : (l : Line) → l.wrong ≡ true → ended_of l ≡ NotADigit l.digits l.other
+pub ended_wrong : (l : Line) → is_some l.wrong ≡ true → ended_of l ≡ Err (NotADigit l.digits (unwrap_or l.wrong 0))
 unfolding ended_of
 ended_wrong l wrong = simp wrong
-
-pub ended_empty : (l : Line) → l.wrong ≡ false → l.digits ≡ 0 → ended_of l ≡ Empty
-unfolding ended_of
-ended_empty l right none = simp (right, eq-eqb l.digits 0 none)
-
-pub ended_too_large : (l : Line) → l.wrong ≡ false → (l.digits ≡ 0 → ⊥) → l.too_large ≡ true → ended_of l ≡ TooLarge
-unfolding ended_of
-ended_too_large l right some large = simp (right, ne_eqb l.digits 0 some, large)
-
-pub ended_number : (l : Line) → l.wrong ≡ false → (l.digits ≡ 0 → ⊥) → l.too_large ≡ false → ended_of l ≡ Number l.value
-unfolding ended_of
-ended_number l right some small = simp (right, ne_eqb l.digits 0 some, small)

@@ -1,8 +1,8 @@
 -- Both by the last digit: of a number it is the remainder by ten, and what is before it is the quotient's digits.
-use Rattle.std.proofs.Common.{◌≡◌, ℕ, zero, suc, ◌+◌, ◌*◌, ◌/◌, ◌%◌, ◌^◌, ◌<◌, ◌≤◌, Bool, true, false, cond, eqb, ltb, leb, List, [], ◌∷◌, ◌++◌, length, get_or, take, sym, refl, ap, ◌∙◌, ap₂, le_antisymm, pow-suc, arith, length-append, length-take-le, take_all, take-suc, ltb-false, le-ltb, lt-ltb, ne_eqb, le-leb}
+use Rattle.std.proofs.Common.{◌≡◌, ℕ, zero, suc, ◌+◌, ◌*◌, ◌/◌, ◌%◌, ◌^◌, ◌<◌, ◌≤◌, Bool, true, false, cond, Ok, Err, eqb, ltb, leb, List, [], ◌∷◌, ◌++◌, length, get_or, take, sym, refl, ap, ◌∙◌, ap₂, le_antisymm, pow-suc, arith, length-append, length-take-le, take_all, take-suc, ltb-false, le-ltb, lt-ltb, ne_eqb, le-leb}
 use borrow.Author.Tests.{lt-leb}
 use Rattle.io.specs.Digits.{hex_digit_ascii, last_digits}
-use Rattle.decimal.specs.declared.Numeral.TheVariants.{Number, Empty, NotADigit, TooLarge}
+use Rattle.decimal.specs.declared.NumeralError.TheVariants.{Empty, NotADigit, TooLarge}
 use Rattle.decimal.specs.Digits.{is_digit, digit_of, first_other, numeral, number_or_too_large, read_of}
 use Rattle.decimal.specs.Written.{WhatIsWrittenIsRead, WhatIsReadIsWritten}
 use Rattle.decimal.proofs.Laws.{other_within, digit_range, numeral_append, one_digit}
@@ -50,7 +50,7 @@ what_is_written_is_read n k word fewest =
     let long : length text ≡ k = length_digits k n in
     let whole : numeral text ≡ n = numeral_digits k n fewest.1 in
     simp (ne_eqb (length text) 0 (λ none. omega (arith, fewest.0)), le-ltb (first_other text) (length text) (omega (arith, all_digits k n)), lt-leb (2 ^ 64) (numeral text) (omega arith))
-    (ap Number whole)
+    (ap Ok whole)
 
 -- ---- and the other way round
 
@@ -89,15 +89,15 @@ record Reads (text : List ℕ) (n : ℕ) : Type 0 where
   all : first_other text ≡ length text
   number : numeral text ≡ n
 
-reads : (text : List ℕ) (n : ℕ) → read_of text ≡ Number n → Reads text n
+reads : (text : List ℕ) (n : ℕ) → read_of text ≡ Ok n → Reads text n
 unfolding read_of number_or_too_large
 reads text n is = by_tests (eqb (length text) 0) (ltb (first_other text) (length text)) (leb (2 ^ 64) (numeral text)) refl is
   where
     by_tests : (e o l : Bool) → ltb (first_other text) (length text) ≡ o
-        → cond e Empty (cond o (NotADigit (first_other text) (get_or text (first_other text) 0)) (cond l TooLarge (Number (numeral text)))) ≡ Number n → Reads text n
-    by_tests true o l o_is h = absurd (let z : ◌≡◌ {A = ℕ} 0 1 = cc in omega arith)
-    by_tests false true l o_is h = absurd (let z : ◌≡◌ {A = ℕ} 0 1 = cc in omega arith)
-    by_tests false false true o_is h = absurd (let z : ◌≡◌ {A = ℕ} 0 1 = cc in omega arith)
+        → cond e (Err Empty) (cond o (Err (NotADigit (first_other text) (get_or text (first_other text) 0))) (cond l (Err TooLarge) (Ok (numeral text)))) ≡ Ok n → Reads text n
+    by_tests true o l o_is h = absurd cc
+    by_tests false true l o_is h = absurd cc
+    by_tests false false true o_is h = absurd cc
     by_tests false false false o_is h = record { all = le_antisymm (other_within text) (ltb-false _ _ o_is); number = cc }
 
 pub what_is_read_is_written : WhatIsReadIsWritten
