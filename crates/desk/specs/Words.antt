@@ -1,141 +1,104 @@
 -- The program's words: `help`, also as `--help` and `-h`; `--version`; `show TERMS`; `get TERMS ID`; `list TERMS LO HI`;
 -- `list TERMS LO HI FROM TO`. Anything else is wrong, and the first fault is told.
-use Rattle.std.specs.Prelude.{ℕ, Bool, true, false, not, ◌&&◌, cond, List, [], ◌∷◌, eqb, ltb, leb}
+use Rattle.std.specs.Prelude.{ℕ, if◌then◌else◌, List, [], ◌∷◌, ◌==◌, nat_lt, nat_le, codes, bytes_eq, Option, Some, None, is_some, unwrap_or, Result, Ok, Err}
+use Rattle.std.specs.Result.{result_map_both}
 use Rattle.refusal.specs.First.{check, first_that_holds}
-use Rattle.decimal.specs.declared.Numeral.{Numeral}
-use Rattle.decimal.specs.declared.Numeral.TheVariants.{Number, Empty, NotADigit, TooLarge}
 use Rattle.decimal.specs.Digits.{read_of}
+use Rattle.desk.specs.declared.words.Word.{Word}
 use Rattle.desk.specs.declared.words.Word.TheVariants.{Verb as theVerb, Terms, Id, Lo, Hi, From, To}
 use Rattle.desk.specs.declared.words.Fault.{Fault}
-use Rattle.desk.specs.declared.words.Fault.TheVariants.{Fine, TooLong, Missing, NoVerb, TooMany, NotANumber, LoAboveHi, FromNotBelowTo}
+use Rattle.desk.specs.declared.words.Fault.TheVariants.{TooLong, Missing, NoVerb, TooMany, NotANumber, LoAboveHi, FromNotBelowTo}
 use Rattle.desk.specs.declared.words.Request.{Request}
-use Rattle.desk.specs.declared.words.Request.TheVariants.{Help, Version, Show, Get, List as Listing, ListPart, Wrong}
+use Rattle.desk.specs.declared.words.Request.TheVariants.{Help, Version, Show, Get, List as Listing, ListPart}
 use Rattle.desk.specs.declared.words.Verb.{Verb}
-use Rattle.desk.specs.declared.words.Verb.TheVariants.{Help as helpVerb, Version as versionVerb, Show as showVerb, Get as getVerb, List as listVerb, Other}
+use Rattle.desk.specs.declared.words.Verb.TheVariants.{Help as helpVerb, Version as versionVerb, Show as showVerb, Get as getVerb, List as listVerb}
 
-unfoldable pub same_word : List ℕ → List ℕ → Bool
-same_word [] [] = true
-same_word [] (y ∷ ys) = false
-same_word (x ∷ xs) [] = false
-same_word (x ∷ xs) (y ∷ ys) = eqb x y && same_word xs ys
-
--- The verbs, letter by letter: `help`, `--help`, `-h`, `--version`, `show`, `get`, `list`.
-unfoldable pub verb_of : List ℕ → Verb
+-- The verbs.
+unfoldable pub verb_of : List ℕ → Option Verb
 verb_of word =
     first_that_holds
-    (check (same_word word (104 ∷ 101 ∷ 108 ∷ 112 ∷ [])) helpVerb
-    ∷ check (same_word word (45 ∷ 45 ∷ 104 ∷ 101 ∷ 108 ∷ 112 ∷ [])) helpVerb
-    ∷ check (same_word word (45 ∷ 104 ∷ [])) helpVerb
-    ∷ check (same_word word (45 ∷ 45 ∷ 118 ∷ 101 ∷ 114 ∷ 115 ∷ 105 ∷ 111 ∷ 110 ∷ [])) versionVerb
-    ∷ check (same_word word (115 ∷ 104 ∷ 111 ∷ 119 ∷ [])) showVerb
-    ∷ check (same_word word (103 ∷ 101 ∷ 116 ∷ [])) getVerb
-    ∷ check (same_word word (108 ∷ 105 ∷ 115 ∷ 116 ∷ [])) listVerb
+    (check (bytes_eq word (codes "help")) (Some helpVerb)
+    ∷ check (bytes_eq word (codes "--help")) (Some helpVerb)
+    ∷ check (bytes_eq word (codes "-h")) (Some helpVerb)
+    ∷ check (bytes_eq word (codes "--version")) (Some versionVerb)
+    ∷ check (bytes_eq word (codes "show")) (Some showVerb)
+    ∷ check (bytes_eq word (codes "get")) (Some getVerb)
+    ∷ check (bytes_eq word (codes "list")) (Some listVerb)
     ∷ [])
-    Other
+    None
 
-abbrev pub is_number : Numeral → Bool
-is_number (Number n) = true
-is_number Empty = false
-is_number (NotADigit place b) = false
-is_number TooLarge = false
+-- What comes after a step, where nothing is wrong with it.
+infixl 10 ◌>>=◌
+abbrev pub ◌>>=◌ : {A B : Type 0} → Result A Fault → (A → Result B Fault) → Result B Fault
+Ok x >>= next = next x
+Err fault >>= next = Err fault
 
-abbrev pub number_in : Numeral → ℕ
-number_in (Number n) = n
-number_in Empty = 0
-number_in (NotADigit place b) = 0
-number_in TooLarge = 0
+-- The number that a word says, by the word's name.
+abbrev pub number_of : Word → List ℕ → Result ℕ Fault
+number_of word text = result_map_both (λ n. n) (λ why. NotANumber word) (read_of text)
 
--- ---- what is wrong
+-- ---- what each verb asks for, or the first thing that is wrong
 
-abbrev pub is_fault : Fault → Bool
-is_fault Fine = false
-is_fault (TooLong n) = true
-is_fault (Missing word) = true
-is_fault NoVerb = true
-is_fault (TooMany n) = true
-is_fault (NotANumber word) = true
-is_fault LoAboveHi = true
-is_fault FromNotBelowTo = true
+unfoldable pub alone_of : ℕ → Request → Result Request Fault
+alone_of count request = first_that_holds (check (nat_lt 1 count) (Err (TooMany 2)) ∷ []) (Ok request)
 
-unfoldable pub alone_fault : ℕ → Fault
-alone_fault count = first_that_holds (check (ltb 1 count) (TooMany 2) ∷ []) Fine
+unfoldable pub show_of : ℕ → Result Request Fault
+show_of count = first_that_holds (check (nat_lt count 2) (Err (Missing Terms)) ∷ check (nat_lt 2 count) (Err (TooMany 3)) ∷ []) (Ok Show)
 
-unfoldable pub show_fault : ℕ → Fault
-show_fault count = first_that_holds (check (ltb count 2) (Missing Terms) ∷ check (ltb 2 count) (TooMany 3) ∷ []) Fine
-
-unfoldable pub get_fault : ℕ → Numeral → Fault
-get_fault count id =
+unfoldable pub get_of : ℕ → List ℕ → Result Request Fault
+get_of count id =
     first_that_holds
-    (check (ltb count 2) (Missing Terms)
-    ∷ check (ltb count 3) (Missing Id)
-    ∷ check (ltb 3 count) (TooMany 4)
-    ∷ check (not (is_number id)) (NotANumber Id)
-    ∷ [])
-    Fine
+    (check (nat_lt count 2) (Err (Missing Terms)) ∷ check (nat_lt count 3) (Err (Missing Id)) ∷ check (nat_lt 3 count) (Err (TooMany 4)) ∷ [])
+    (do
+      number ← number_of Id id
+      Ok (Get number))
 
 -- Both ends belong to the interval: LO may be HI, and not above it.
-unfoldable pub interval_fault : Numeral → Numeral → Fault
-interval_fault lo hi =
-    first_that_holds
-    (check (not (is_number lo)) (NotANumber Lo)
-    ∷ check (not (is_number hi)) (NotANumber Hi)
-    ∷ check (ltb (number_in hi) (number_in lo)) LoAboveHi
-    ∷ [])
-    Fine
+unfoldable pub interval_of : List ℕ → List ℕ → Result (ℕ × ℕ) Fault
+interval_of lo hi = do
+  low ← number_of Lo lo
+  high ← number_of Hi hi
+  first_that_holds (check (nat_lt high low) (Err LoAboveHi) ∷ []) (Ok (low, high))
 
 -- TO does not belong to the range: FROM is below it.
-unfoldable pub range_fault : Numeral → Numeral → Fault
-range_fault from to =
-    first_that_holds
-    (check (not (is_number from)) (NotANumber From)
-    ∷ check (not (is_number to)) (NotANumber To)
-    ∷ check (leb (number_in to) (number_in from)) FromNotBelowTo
-    ∷ [])
-    Fine
+unfoldable pub range_of : List ℕ → List ℕ → Result (ℕ × ℕ) Fault
+range_of from to = do
+  first ← number_of From from
+  end ← number_of To to
+  first_that_holds (check (nat_le end first) (Err FromNotBelowTo) ∷ []) (Ok (first, end))
+
+-- What is listed of an interval where a range is named too.
+abbrev pub part_of : ℕ × ℕ → Result (ℕ × ℕ) Fault → Result Request Fault
+part_of ends range = do
+  ids ← range
+  Ok (ListPart ends.0 ends.1 ids.0 ids.1)
 
 -- Four words, or six.
-unfoldable pub list_fault : ℕ → Numeral → Numeral → Numeral → Numeral → Fault
-list_fault count lo hi from to =
+unfoldable pub list_of : ℕ → List ℕ → List ℕ → List ℕ → List ℕ → Result Request Fault
+list_of count lo hi from to =
     first_that_holds
-    (check (ltb count 2) (Missing Terms)
-    ∷ check (ltb count 3) (Missing Lo)
-    ∷ check (ltb count 4) (Missing Hi)
-    ∷ check (eqb count 5) (Missing To)
-    ∷ check (ltb 6 count) (TooMany 7)
-    ∷ check (is_fault (interval_fault lo hi)) (interval_fault lo hi)
-    ∷ check (eqb count 6) (range_fault from to)
+    (check (nat_lt count 2) (Err (Missing Terms))
+    ∷ check (nat_lt count 3) (Err (Missing Lo))
+    ∷ check (nat_lt count 4) (Err (Missing Hi))
+    ∷ check (count == 5) (Err (Missing To))
+    ∷ check (nat_lt 6 count) (Err (TooMany 7))
     ∷ [])
-    Fine
-
-abbrev pub verb_fault : Verb → ℕ → Numeral → Numeral → Numeral → Numeral → Fault
-verb_fault helpVerb count third fourth fifth sixth = alone_fault count
-verb_fault versionVerb count third fourth fifth sixth = alone_fault count
-verb_fault showVerb count third fourth fifth sixth = show_fault count
-verb_fault getVerb count third fourth fifth sixth = get_fault count third
-verb_fault listVerb count third fourth fifth sixth = list_fault count third fourth fifth sixth
-verb_fault Other count third fourth fifth sixth = NoVerb
-
-unfoldable pub fault_of : ℕ → ℕ → Verb → Numeral → Numeral → Numeral → Numeral → Fault
-fault_of count long verb third fourth fifth sixth =
-    first_that_holds
-    (check (not (eqb long 0)) (TooLong long) ∷ check (eqb count 0) (Missing theVerb) ∷ [])
-    (verb_fault verb count third fourth fifth sixth)
+    (do
+      ends ← interval_of lo hi
+      if count == 6 then part_of ends (range_of from to) else Ok (Listing ends.0 ends.1))
 
 -- ---- what is asked for
 
-unfoldable pub request_by : ℕ → Verb → Numeral → Numeral → Numeral → Numeral → Request
-request_by count helpVerb third fourth fifth sixth = Help
-request_by count versionVerb third fourth fifth sixth = Version
-request_by count showVerb third fourth fifth sixth = Show
-request_by count getVerb third fourth fifth sixth = Get (number_in third)
-request_by count listVerb third fourth fifth sixth =
-    cond (eqb count 6) (ListPart (number_in third) (number_in fourth) (number_in fifth) (number_in sixth)) (Listing (number_in third) (number_in fourth))
-request_by count Other third fourth fifth sixth = Wrong NoVerb
+abbrev pub request_by : Option Verb → ℕ → List ℕ → List ℕ → List ℕ → List ℕ → Result Request Fault
+request_by (Some helpVerb) count third fourth fifth sixth = alone_of count Help
+request_by (Some versionVerb) count third fourth fifth sixth = alone_of count Version
+request_by (Some showVerb) count third fourth fifth sixth = show_of count
+request_by (Some getVerb) count third fourth fifth sixth = get_of count third
+request_by (Some listVerb) count third fourth fifth sixth = list_of count third fourth fifth sixth
+request_by None count third fourth fifth sixth = Err NoVerb
 
-abbrev pub unless_wrong : Fault → Request → Request
-unless_wrong fault request = cond (is_fault fault) (Wrong fault) request
-
-unfoldable pub request_of : ℕ → ℕ → List ℕ → List ℕ → List ℕ → List ℕ → List ℕ → Request
+unfoldable pub request_of : ℕ → Option ℕ → List ℕ → List ℕ → List ℕ → List ℕ → List ℕ → Result Request Fault
 request_of count long word third fourth fifth sixth =
-    unless_wrong (fault_of count long (verb_of word) (read_of third) (read_of fourth) (read_of fifth) (read_of sixth))
-    (request_by count (verb_of word) (read_of third) (read_of fourth) (read_of fifth) (read_of sixth))
+    first_that_holds
+    (check (is_some long) (Err (TooLong (unwrap_or long 0))) ∷ check (count == 0) (Err (Missing theVerb)) ∷ [])
+    (request_by (verb_of word) count third fourth fifth sixth)

@@ -11,7 +11,7 @@ ghost use Rattle.desk.specs.Blocks.{block_width_of, block_base_of};
 
 use blocked_bitpacker::BlockedBitpacker;
 use refusal::Refusal;
-pub use words::{Fault, Request, Word, asked, same_word};
+pub use words::{Fault, Request, Word, asked};
 
 // The ids from `from` to before `to` whose value lies in lo..hi, where both may be any numbers: the store's
 // own search takes ids of 32 bits, and no store counts so far.

@@ -1,11 +1,9 @@
 // What the words behind the program's name ask for, or the first that is wrong or missing.
 ghost use Rattle.std.specs.Prelude.{◌≡◌};
-ghost use Rattle.desk.specs.Words.{same_word, verb_of, is_number, number_in, is_fault, alone_fault, show_fault, get_fault, interval_fault, range_fault, list_fault, fault_of, request_by, request_of};
-
-use decimal::Numeral;
+ghost use Rattle.desk.specs.Words.{verb_of, number_of, alone_of, show_of, get_of, interval_of, range_of, list_of, request_of};
 
 // The words by their names on the help page: a verb; the file; and numbers.
-#[derive(Clone, Copy)]
+#[derive(Clone, Copy, Debug, PartialEq, Eq)]
 pub enum Word {
     Verb,
     Terms,
@@ -16,10 +14,9 @@ pub enum Word {
     To,
 }
 
-// What is wrong with the words, if anything. A word that is too long, or one too many, is told by its number, from 1 on.
-#[derive(Clone, Copy)]
+// What is wrong with the words. A word that is too long, or one too many, is told by its number, from 1 on.
+#[derive(Clone, Copy, Debug, PartialEq, Eq)]
 pub enum Fault {
-    Fine,
     TooLong(usize),
     Missing(Word),
     NoVerb,
@@ -29,8 +26,8 @@ pub enum Fault {
     FromNotBelowTo,
 }
 
-// A request, or why the words are none.
-#[derive(Clone, Copy)]
+// What the words ask for.
+#[derive(Clone, Copy, Debug, PartialEq, Eq)]
 pub enum Request {
     Help,
     Version,
@@ -38,291 +35,159 @@ pub enum Request {
     Get(u64),
     List(u64, u64),
     ListPart(u64, u64, u64, u64),
-    Wrong(Fault),
 }
 
-#[derive(Clone, Copy)]
-pub enum Verb {
+#[derive(Clone, Copy, Debug, PartialEq, Eq)]
+enum Verb {
     Help,
     Version,
     Show,
     Get,
     List,
-    Other,
-}
-
-// Whether two words are the same, byte by byte.
-#[tactic(auto, using(crate::proofs::Laws::lengths_differ, crate::proofs::Laws::letter_same, crate::proofs::Laws::letter_differs, crate::proofs::Laws::words_end))]
-pub fn same_word(a: &[u8], b: &[u8]) -> bool
-    ensures { result ≡ same_word a.now b.now }
-{
-    if a.len() != b.len() {
-        return false;
-    }
-    let mut i = 0;
-    while i < a.len() {
-        if a[i] != b[i] {
-            return false;
-        }
-        i += 1;
-    }
-    true
 }
 
 #[tactic(auto, unfolding(crate::specs::Words::verb_of))]
-fn verb_in(word: &[u8]) -> Verb
+fn verb_in(word: &[u8]) -> Option<Verb>
     ensures { result ≡ verb_of word.now }
 {
-    if same_word(word, b"help") {
-        return Verb::Help;
-    }
-    if same_word(word, b"--help") {
-        return Verb::Help;
-    }
-    if same_word(word, b"-h") {
-        return Verb::Help;
-    }
-    if same_word(word, b"--version") {
-        return Verb::Version;
-    }
-    if same_word(word, b"show") {
-        return Verb::Show;
-    }
-    if same_word(word, b"get") {
-        return Verb::Get;
-    }
-    if same_word(word, b"list") {
-        return Verb::List;
-    }
-    Verb::Other
-}
-
-fn is_number(numeral: Numeral) -> bool
-    ensures { result ≡ is_number numeral }
-{
-    match numeral {
-        Numeral::Number(_) => true,
-        Numeral::Empty => false,
-        Numeral::NotADigit(_, _) => false,
-        Numeral::TooLarge => false,
+    match word {
+        b"help" | b"--help" | b"-h" => Some(Verb::Help),
+        b"--version" => Some(Verb::Version),
+        b"show" => Some(Verb::Show),
+        b"get" => Some(Verb::Get),
+        b"list" => Some(Verb::List),
+        _ => None,
     }
 }
 
-fn number_in(numeral: Numeral) -> u64
-    ensures { result ≡ number_in numeral }
+// The number that a word says.
+fn number(word: Word, text: &[u8]) -> Result<u64, Fault>
+    ensures { result ≡ number_of word text.now }
 {
-    match numeral {
-        Numeral::Number(value) => value,
-        Numeral::Empty => 0,
-        Numeral::NotADigit(_, _) => 0,
-        Numeral::TooLarge => 0,
-    }
-}
-
-fn is_fault(fault: Fault) -> bool
-    ensures { result ≡ is_fault fault }
-{
-    match fault {
-        Fault::Fine => false,
-        Fault::TooLong(_) => true,
-        Fault::Missing(_) => true,
-        Fault::NoVerb => true,
-        Fault::TooMany(_) => true,
-        Fault::NotANumber(_) => true,
-        Fault::LoAboveHi => true,
-        Fault::FromNotBelowTo => true,
-    }
+    decimal::read(text).map_err(|_| Fault::NotANumber(word))
 }
 
 // A verb that stands alone.
-#[tactic(auto, unfolding(crate::specs::Words::alone_fault))]
-fn alone_fault(count: usize) -> Fault
-    ensures { result ≡ alone_fault count }
+#[tactic(auto, unfolding(crate::specs::Words::alone_of))]
+fn alone(count: usize, request: Request) -> Result<Request, Fault>
+    ensures { result ≡ alone_of count request }
 {
     if count > 1 {
-        return Fault::TooMany(2);
+        return Err(Fault::TooMany(2));
     }
-    Fault::Fine
+    Ok(request)
 }
 
-#[tactic(auto, unfolding(crate::specs::Words::show_fault))]
-fn show_fault(count: usize) -> Fault
-    ensures { result ≡ show_fault count }
+#[tactic(auto, unfolding(crate::specs::Words::show_of))]
+fn show(count: usize) -> Result<Request, Fault>
+    ensures { result ≡ show_of count }
 {
     if count < 2 {
-        return Fault::Missing(Word::Terms);
+        return Err(Fault::Missing(Word::Terms));
     }
     if count > 2 {
-        return Fault::TooMany(3);
+        return Err(Fault::TooMany(3));
     }
-    Fault::Fine
+    Ok(Request::Show)
 }
 
-#[tactic(auto, unfolding(crate::specs::Words::get_fault))]
-fn get_fault(count: usize, id: Numeral) -> Fault
-    ensures { result ≡ get_fault count id }
+#[tactic(auto, unfolding(crate::specs::Words::get_of))]
+fn get(count: usize, id: &[u8]) -> Result<Request, Fault>
+    ensures { result ≡ get_of count id.now }
 {
     if count < 2 {
-        return Fault::Missing(Word::Terms);
+        return Err(Fault::Missing(Word::Terms));
     }
     if count < 3 {
-        return Fault::Missing(Word::Id);
+        return Err(Fault::Missing(Word::Id));
     }
     if count > 3 {
-        return Fault::TooMany(4);
+        return Err(Fault::TooMany(4));
     }
-    if !is_number(id) {
-        return Fault::NotANumber(Word::Id);
-    }
-    Fault::Fine
+    let id = number(Word::Id, id)?;
+    Ok(Request::Get(id))
 }
 
 // LO and HI are both included.
-#[tactic(auto, unfolding(crate::specs::Words::interval_fault))]
-fn interval_fault(lo: Numeral, hi: Numeral) -> Fault
-    ensures { result ≡ interval_fault lo hi }
+#[tactic(auto, unfolding(crate::specs::Words::interval_of))]
+fn interval(lo: &[u8], hi: &[u8]) -> Result<(u64, u64), Fault>
+    ensures { result ≡ interval_of lo.now hi.now }
 {
-    if !is_number(lo) {
-        return Fault::NotANumber(Word::Lo);
+    let lo = number(Word::Lo, lo)?;
+    let hi = number(Word::Hi, hi)?;
+    if hi < lo {
+        return Err(Fault::LoAboveHi);
     }
-    if !is_number(hi) {
-        return Fault::NotANumber(Word::Hi);
-    }
-    if number_in(hi) < number_in(lo) {
-        return Fault::LoAboveHi;
-    }
-    Fault::Fine
+    Ok((lo, hi))
 }
 
 // TO is not included.
-#[tactic(auto, unfolding(crate::specs::Words::range_fault))]
-fn range_fault(from: Numeral, to: Numeral) -> Fault
-    ensures { result ≡ range_fault from to }
+#[tactic(auto, unfolding(crate::specs::Words::range_of))]
+fn range(from: &[u8], to: &[u8]) -> Result<(u64, u64), Fault>
+    ensures { result ≡ range_of from.now to.now }
 {
-    if !is_number(from) {
-        return Fault::NotANumber(Word::From);
+    let from = number(Word::From, from)?;
+    let to = number(Word::To, to)?;
+    if to <= from {
+        return Err(Fault::FromNotBelowTo);
     }
-    if !is_number(to) {
-        return Fault::NotANumber(Word::To);
-    }
-    if number_in(to) <= number_in(from) {
-        return Fault::FromNotBelowTo;
-    }
-    Fault::Fine
+    Ok((from, to))
 }
 
-#[tactic(auto, unfolding(crate::specs::Words::list_fault))]
-fn list_fault(count: usize, lo: Numeral, hi: Numeral, from: Numeral, to: Numeral) -> Fault
-    ensures { result ≡ list_fault count lo hi from to }
+#[tactic(auto, unfolding(crate::specs::Words::list_of))]
+fn list(count: usize, lo: &[u8], hi: &[u8], from: &[u8], to: &[u8]) -> Result<Request, Fault>
+    ensures { result ≡ list_of count lo.now hi.now from.now to.now }
 {
     if count < 2 {
-        return Fault::Missing(Word::Terms);
+        return Err(Fault::Missing(Word::Terms));
     }
     if count < 3 {
-        return Fault::Missing(Word::Lo);
+        return Err(Fault::Missing(Word::Lo));
     }
     if count < 4 {
-        return Fault::Missing(Word::Hi);
+        return Err(Fault::Missing(Word::Hi));
     }
     if count == 5 {
-        return Fault::Missing(Word::To);
+        return Err(Fault::Missing(Word::To));
     }
     if count > 6 {
-        return Fault::TooMany(7);
+        return Err(Fault::TooMany(7));
     }
-    let interval = interval_fault(lo, hi);
-    if is_fault(interval) {
-        return interval;
-    }
+    let (lo, hi) = interval(lo, hi)?;
     if count == 6 {
-        return range_fault(from, to);
+        let (from, to) = range(from, to)?;
+        return Ok(Request::ListPart(lo, hi, from, to));
     }
-    Fault::Fine
-}
-
-#[tactic(auto, unfolding(crate::specs::Words::fault_of))]
-fn fault_in(
-    count: usize,
-    long: usize,
-    verb: Verb,
-    third: Numeral,
-    fourth: Numeral,
-    fifth: Numeral,
-    sixth: Numeral,
-) -> Fault
-    ensures { result ≡ fault_of count long verb third fourth fifth sixth }
-{
-    if long != 0 {
-        return Fault::TooLong(long);
-    }
-    if count == 0 {
-        return Fault::Missing(Word::Verb);
-    }
-    match verb {
-        Verb::Help => alone_fault(count),
-        Verb::Version => alone_fault(count),
-        Verb::Show => show_fault(count),
-        Verb::Get => get_fault(count, third),
-        Verb::List => list_fault(count, third, fourth, fifth, sixth),
-        Verb::Other => Fault::NoVerb,
-    }
-}
-
-// What words that are not wrong ask for.
-#[tactic(auto, unfolding(crate::specs::Words::request_by))]
-fn request_by(
-    count: usize,
-    verb: Verb,
-    third: Numeral,
-    fourth: Numeral,
-    fifth: Numeral,
-    sixth: Numeral,
-) -> Request
-    ensures { result ≡ request_by count verb third fourth fifth sixth }
-{
-    let a = number_in(third);
-    let b = number_in(fourth);
-    let c = number_in(fifth);
-    let d = number_in(sixth);
-    match verb {
-        Verb::Help => Request::Help,
-        Verb::Version => Request::Version,
-        Verb::Show => Request::Show,
-        Verb::Get => Request::Get(a),
-        Verb::List => {
-            if count == 6 {
-                Request::ListPart(a, b, c, d)
-            } else {
-                Request::List(a, b)
-            }
-        }
-        Verb::Other => Request::Wrong(Fault::NoVerb),
-    }
+    Ok(Request::List(lo, hi))
 }
 
 // What so many words ask for: the first, and those from the third on; a word that is missing is empty here. The second is
 // the file's name, and nothing is asked of it but that it is there. `long` is the number of the first word that was too
-// long to be read, or 0.
+// long to be read, if one was.
 #[tactic(auto, unfolding(crate::specs::Words::request_of))]
 pub fn asked(
     count: usize,
-    long: usize,
+    long: Option<usize>,
     word: &[u8],
     third: &[u8],
     fourth: &[u8],
     fifth: &[u8],
     sixth: &[u8],
-) -> Request
+) -> Result<Request, Fault>
     ensures { result ≡ request_of count long word.now third.now fourth.now fifth.now sixth.now }
 {
-    let verb = verb_in(word);
-    let a = decimal::read(third);
-    let b = decimal::read(fourth);
-    let c = decimal::read(fifth);
-    let d = decimal::read(sixth);
-    let fault = fault_in(count, long, verb, a, b, c, d);
-    if is_fault(fault) {
-        return Request::Wrong(fault);
+    if let Some(number) = long {
+        return Err(Fault::TooLong(number));
     }
-    request_by(count, verb, a, b, c, d)
+    if count == 0 {
+        return Err(Fault::Missing(Word::Verb));
+    }
+    match verb_in(word) {
+        Some(Verb::Help) => alone(count, Request::Help),
+        Some(Verb::Version) => alone(count, Request::Version),
+        Some(Verb::Show) => show(count),
+        Some(Verb::Get) => get(count, third),
+        Some(Verb::List) => list(count, third, fourth, fifth, sixth),
+        None => Err(Fault::NoVerb),
+    }
 }
