@@ -2,8 +2,8 @@
 -- All by induction on the list or on the count of bytes.
 use mathlib.Core.Path.{◌≡◌, refl, sym, ap, ap₂, ◌∙◌, subst}
 use mathlib.Core.List.{List, [], ◌∷◌, ◌++◌}
-use Prim.Native.Nat.{ℕ, zero, suc, ◌+◌, ◌*◌, ◌/◌, ◌%◌, ◌^◌, ◌≤◌, ◌<◌}
-use native.Mathlib.Nat.{pow-suc, mul_comm, mul_assoc, mod-eq_of_lt, zero-div, zero-mod, div-div-eq-div-mul, zero-add, suc-add, div-one, mod-mod}
+use Prim.Native.Nat.{ℕ, zero, suc, ◌+◌, ◌-◌, ◌*◌, ◌/◌, ◌%◌, ◌^◌, ◌≤◌, ◌<◌}
+use native.Mathlib.Nat.{pow-suc, mul_comm, mul_assoc, mod-eq_of_lt, zero-div, zero-mod, mul-le-mul, div-div-eq-div-mul, zero-add, suc-add, div-one, mod-mod}
 use native.Mathlib.Numerals.{towards_suc}
 use native.Mathlib.Omega.{arith}
 use lib.Dec.{lit<}
@@ -11,7 +11,7 @@ use lib.Arith.{mod-mul}
 use lib.Pow as Pow
 use lib.ListN.{length, get_or, take, drop}
 use lib.Seq.{take-nil, sets, sets-eq}
-use Rattle.bit_rule.specs.Bytes.{AreBytes, number, bytes_of}
+use Rattle.bit_rule.specs.Bytes.{AreBytes, number, bytes_of, bytes_for}
 
 -- a byte is eight bits
 pub pow_bytes : (n : ℕ) → 256 ^ n ≡ 2 ^ (8 * n)
@@ -181,3 +181,7 @@ window_word a xs =
     (link 3 (suc (suc (suc (suc a)))) xs
     (link 2 (suc (suc (suc (suc (suc a))))) xs
     (link 1 (suc (suc (suc (suc (suc (suc a)))))) xs (last (suc (suc (suc (suc (suc (suc (suc a))))))) xs))))))))
+
+-- a column of fewer than 2 ^ 60 values takes half of the address space at most
+pub column_half : (n w : ℕ) → n < 2 ^ 60 → w ≤ 64 → bytes_for (n * w) ≤ 2 ^ 63
+column_half n w few narrow = let most : n ≤ 2 ^ 60 - 1 = omega arith in omega (arith, mul-le-mul most narrow)
