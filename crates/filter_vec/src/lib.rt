@@ -11,21 +11,14 @@ ghost use Rattle.filter_vec.specs.Filter.{filtered, filter_of};
 pub fn lies_between(lo: u64, hi: u64, val: u64) -> bool
     ensures { result ≡ lies_between lo hi val }
 {
-    lo <= val && val <= hi
-}
-
-fn wide(val: u32) -> u64
-    ensures { result ≡ val }
-{
-    val as u64
+    (lo..=hi).contains(&val)
 }
 
 // How many of so many values have an id: those whose id, counted from the offset on, is a u32.
 fn values_with_id(offset: u32, values: usize) -> usize
     ensures { result ≡ min (2 ^ 32 - offset) values }
 {
-    let ids = 0x1_0000_0000 - offset as usize;
-    if ids < values { ids } else { values }
+    (0x1_0000_0000 - offset as usize).min(values)
 }
 
 // The ids of the values that lie in lo..=hi, at the start of the slice in place of the values; the
@@ -36,13 +29,12 @@ pub fn filter_vec_in_place(lo: u32, hi: u32, offset: u32, output: &mut [u32]) ->
 {
     let end = values_with_id(offset, output.len());
     let mut count = 0;
-    let mut i = 0;
-    while i < end {
-        if lies_between(lo as u64, hi as u64, wide(output[i])) {
+    // A range and no iterator over the slice: one place is read and another written.
+    for i in 0..end {
+        if lies_between(u64::from(lo), u64::from(hi), u64::from(output[i])) {
             output[count] = offset + i as u32;
             count += 1;
         }
-        i += 1;
     }
     count
 }
