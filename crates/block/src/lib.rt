@@ -14,7 +14,6 @@ use bitpacker::BitPacker;
 use bitunpacker::BitUnpacker;
 use num_bits::{compute_num_bits, minmax};
 use refusal::Refusal;
-use std::num::wrapping_add_u64;
 
 // A block that was sealed: its lowest value, how many bits each difference to that takes, and how many bytes the block.
 #[derive(Clone, Copy)]
@@ -33,6 +32,7 @@ fn size_of(n: usize, width: usize) -> usize
 }
 
 // Packs the differences to a base at the start of the output.
+#[tactic(auto, using(crate::proofs::Packing::place_within))]
 fn pack(values: &[u64], base: u64, width: u8, output: &mut [u8])
     requires width_bound { (width ≤ 64) × Fit (of_width width (differences base values.now)) }
     requires by_index { (i : ℕ) → i < length values.now → base ≤ slice_index values.now i }
@@ -41,36 +41,22 @@ fn pack(values: &[u64], base: u64, width: u8, output: &mut [u8])
 {
     let mut packer = BitPacker::new();
     let mut at = 0;
-    let mut i = 0;
-    while i < values.len() {
-        match packer.write(values[i] - base, width, &mut output[at..]) {
-            Ok(written) => {
-                packer = written.packer;
-                at = at + written.emitted;
-            }
-            Err(_) => {
-                return;
-            }
-        }
-        i += 1;
+    for value in values {
+        let written = packer
+            .write(*value - base, width, &mut output[at..])
+            .unwrap();
+        packer = written.packer;
+        at += written.emitted;
     }
     let _ = packer.flush(&mut output[at..]);
 }
 
 // Eight zero bytes at the start of the output.
-#[tactic(auto, using(crate::proofs::SealingLaws::eight_stores, crate::proofs::SealingLaws::left_alone))]
 pub fn clear_eight(output: &mut [u8])
     ensures { output.new ≡ cleared_of output.old }
 {
     if 8 <= output.len() {
-        output[0] = 0;
-        output[1] = 0;
-        output[2] = 0;
-        output[3] = 0;
-        output[4] = 0;
-        output[5] = 0;
-        output[6] = 0;
-        output[7] = 0;
+        output[..8].fill(0);
     }
 }
 
@@ -114,10 +100,8 @@ pub fn seal(values: &[u64], bytes: &mut [u8]) -> Result<Sealed, Refusal>
 fn raise(base: u64, values: &mut [u64])
     ensures { values.new ≡ map (above_base base) values.old }
 {
-    let mut i = 0;
-    while i < values.len() {
-        values[i] = wrapping_add_u64(base, values[i]);
-        i += 1;
+    for value in values.iter_mut() {
+        *value = base.wrapping_add(*value);
     }
 }
 
@@ -131,27 +115,15 @@ pub fn read(
 ) -> Result<(), Refusal>
     ensures { range result output.new ≡ read_of base width first bytes.now output.old }
 {
-    match BitUnpacker::new(width) {
-        Err(why) => Err(why),
-        Ok(unpacker) => match unpacker.get_range(first, bytes, output) {
-            Err(why) => Err(why),
-            Ok(()) => {
-                raise(base, output);
-                Ok(())
-            }
-        },
-    }
+    BitUnpacker::new(width)?.get_range(first, bytes, output)?;
+    raise(base, output);
+    Ok(())
 }
 
 // Reads the value at one place of a block that starts with the bytes.
 pub fn read_one(base: u64, width: u8, place: u32, bytes: &[u8]) -> Result<u64, Refusal>
     ensures { result ≡ read_one_of base width place bytes.now }
 {
-    match BitUnpacker::new(width) {
-        Err(why) => Err(why),
-        Ok(unpacker) => match unpacker.get(place, bytes) {
-            Err(why) => Err(why),
-            Ok(difference) => Ok(wrapping_add_u64(base, difference)),
-        },
-    }
+    let difference = BitUnpacker::new(width)?.get(place, bytes)?;
+    Ok(base.wrapping_add(difference))
 }
