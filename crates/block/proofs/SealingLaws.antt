@@ -54,8 +54,8 @@ module _ (low high : ℕ) (vs : List ℕ) (extent : Extent low high vs) where
   unfolding block_width
   width_is = ap width_of (ap₂ (λ h l. h - l) extent.highest extent.lowest)
 
-  pub width_narrow : width_of (high - low) ≤ 64
-  width_narrow = legal_le (width_of (high - low)) (width_of_legal (high - low))
+  pub width_narrow : {w : ℕ} → w ≡ width_of (high - low) → w ≤ 64
+  width_narrow is = subst (λ w. w ≤ 64) (sym is) (legal_le (width_of (high - low)) (width_of_legal (high - low)))
 
 fit_all : (w low : ℕ) (vs : List ℕ) → ((i : ℕ) → i < length vs → get_or vs i 0 - low < 2 ^ w) → Fit (of_width w (differences low vs))
 fit_all w low [] h = tt

@@ -10,6 +10,7 @@ ghost use Rattle.bitunpacker.specs.Unpacker.{range};
 ghost use Rattle.block.specs.Block.{base_of, block_width, differences, bytes_of_block, eight_zeros, above_base};
 ghost use Rattle.block.specs.Calls.{outcome, cleared_of, Extent, seal_of, read_of, read_one_of};
 
+use bit_rule::column_bytes;
 use bitpacker::BitPacker;
 use bitunpacker::BitUnpacker;
 use num_bits::{compute_num_bits, minmax};
@@ -21,14 +22,6 @@ pub struct Sealed {
     pub base: u64,
     pub width: usize,
     pub size: usize,
-}
-
-// ceil(n*w/8), for every number of values that a slice can have.
-fn size_of(n: usize, width: usize) -> usize
-    requires { (n < 2 ^ 60) × (width ≤ 64) }
-    ensures { (result ≡ bytes_of_block n width) × (result ≤ 2 ^ 63) }
-{
-    n / 8 * width + (n % 8 * width + 7) / 8
 }
 
 // Packs the differences to a base at the start of the output.
@@ -72,7 +65,7 @@ fn seal_between(
 {
     let num_bits = compute_num_bits(highest - lowest);
     let width = num_bits as usize;
-    let size = size_of(values.len(), width);
+    let size = column_bytes(values.len(), width);
     if bytes.len() < size + 8 {
         return Err(Refusal::NoRoom);
     }
