@@ -31,10 +31,10 @@ pub fn list(
     if to <= from {
         return store.get_ids_for_value_range(lo, hi, 0, 0, bytes, entries, positions);
     }
-    if to > u32::MAX as u64 {
+    let Ok(end) = u32::try_from(to) else {
         return store.get_ids_for_value_range(lo, hi, 0, u32::MAX, bytes, entries, positions);
-    }
-    store.get_ids_for_value_range(lo, hi, from as u32, to as u32, bytes, entries, positions)
+    };
+    store.get_ids_for_value_range(lo, hi, from as u32, end, bytes, entries, positions)
 }
 
 // The same over all ids.
@@ -49,10 +49,8 @@ pub fn list_all(
 ) -> Result<usize, Refusal>
     ensures { search result positions.new ≡ search_of store lo hi 0 (count_of store) bytes.now entries.now positions.old }
 {
-    match store.count(bytes, entries) {
-        Err(why) => Err(why),
-        Ok(values) => list(store, lo, hi, 0, values as u64, bytes, entries, positions),
-    }
+    let values = store.count(bytes, entries)?;
+    list(store, lo, hi, 0, values as u64, bytes, entries, positions)
 }
 
 // How many bits each value of a block takes, by its entry.
