@@ -10,7 +10,8 @@ use lib.Dec.{lit<}
 use lib.Arith.{mod-mul}
 use lib.Pow as Pow
 use lib.ListN.{length, get_or, take, drop}
-use lib.Seq.{take-nil, sets, sets-eq}
+use lib.Seq.{take-nil, take_at}
+use Rattle.std.specs.Int.{to_le_bytes, w64}
 use Rattle.bit_rule.specs.Bytes.{AreBytes, number, bytes_of, bytes_for}
 
 -- a byte is eight bits
@@ -116,27 +117,6 @@ number-take (suc n) (x ∷ xs) h =
     let rest = ap (λ y. y % 256 ^ n) high in
     omega (arith, number-take n xs (tail_bytes xs h), split, rest, ap (λ y. (x + 256 * number xs) % y) (pow-suc 256 n))
 
--- the eight bytes of a word, written out
-abbrev pub word_bytes : ℕ → List ℕ
-word_bytes x =
-    x % 256
-    ∷ x / 0x100 % 256
-    ∷ x / 0x1_0000 % 256
-    ∷ x / 0x100_0000 % 256
-    ∷ x / 0x1_0000_0000 % 256
-    ∷ x / 0x100_0000_0000 % 256
-    ∷ x / 0x1_0000_0000_0000 % 256
-    ∷ x / 0x100_0000_0000_0000 % 256
-    ∷ []
-
-pub bytes_of_word : (x : ℕ) → bytes_of 8 x ≡ word_bytes x
-unfolding bytes_of
-bytes_of_word x = simp div-div-eq-div-mul
-
--- eight stores, a byte each, put a word at the start of a list
-pub sets_word : (x : ℕ) (out : List ℕ) → 8 ≤ length out → sets out 0 (word_bytes x) ≡ bytes_of 8 x ++ drop 8 out
-sets_word x out h = sets-eq (word_bytes x) out 0 h ∙ ap (λ bytes. bytes ++ drop 8 out) (sym (bytes_of_word x))
-
 -- more bytes: those of the quotient follow
 pub bytes_of-add : (a b x : ℕ) → bytes_of (a + b) x ≡ bytes_of a x ++ bytes_of b (x / 256 ^ a)
 unfolding bytes_of
@@ -146,6 +126,17 @@ bytes_of-add (suc a) b x =
     div-div-eq-div-mul x 256 (256 ^ a) ∙ ap (λ y. x / y) (mul_comm 256 (256 ^ a) ∙ sym (pow-suc 256 a)) in
     ap (λ n. bytes_of n x) (suc-add a b)
     ∙ ap (λ l. x % 256 ∷ l) (bytes_of-add a b (x / 256) ∙ ap (λ y. bytes_of a (x / 256) ++ bytes_of b y) quotient)
+
+-- std's eight bytes of a word are these, and its first n are the n lowest
+pub word_bytes : (x : ℕ) → to_le_bytes w64 x ≡ bytes_of 8 x
+unfolding bytes_of
+word_bytes x = simp div-div-eq-div-mul
+
+pub low_bytes : (n x : ℕ) → n ≤ 8 → take n (to_le_bytes w64 x) ≡ bytes_of n x
+low_bytes n x few =
+    let whole : 8 ≡ n + (8 - n) = omega arith in
+    ap (take n) (word_bytes x ∙ ap (λ k. bytes_of k x) whole ∙ bytes_of-add n (8 - n) x)
+    ∙ take_at (bytes_of n x) (bytes_of (8 - n) (x / 256 ^ n)) n (length-bytes_of n x)
 
 -- what stands above n bytes does not matter to them
 pub bytes_of_cut : (n x : ℕ) → bytes_of n (x % 256 ^ n) ≡ bytes_of n x

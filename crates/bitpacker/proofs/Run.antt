@@ -1,7 +1,6 @@
 -- A whole run leaves exactly the stream's bytes. After the values ps, the packer has emitted `emitted_of ps` bytes, holds what is left of
 -- their stream's number above those (`held_of ps`), and the output begins with the number's bytes (`so_far ps`). One more value moves all
 -- three on by one (`write_more`), and a flush ends the stream (`flush_all`): a loop that packs has these three as its invariant.
-use Rattle.std.specs.Prelude.{Ok}
 use mathlib.Core.Path.{◌≡◌, refl, sym, ap, ap₂, ◌∙◌, subst}
 use mathlib.Core.List.{List, [], ◌∷◌, ◌++◌, append_assoc, append-nil}
 use mathlib.Core.Bool.{false}
