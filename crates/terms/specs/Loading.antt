@@ -1,5 +1,5 @@
 -- How a text is taken byte by byte: what each call of a loading answers, and what the two areas then hold.
-use Rattle.std.specs.Prelude.{ℕ, ◌+◌, ◌%◌, ◌^◌, Bool, true, false, not, ◌&&◌, ◌||◌, List, [], ◌∷◌, length, ◌==◌, Ok, Err, Result}
+use Rattle.std.specs.Prelude.{ℕ, ◌+◌, ◌%◌, ◌^◌, Bool, not, ◌&&◌, ◌||◌, List, [], ◌∷◌, length, ◌==◌, Option, Some, None, is_some, unwrap_or, Result, Ok, Err}
 use Rattle.refusal.specs.declared.Refusal.{Refusal}
 use Rattle.refusal.specs.First.{check, first_that_holds}
 use Rattle.refusal.specs.declared.Refusal.TheVariants.{EntriesFull, Damaged}
@@ -7,12 +7,12 @@ use Rattle.blocked_bitpacker.specs.declared.BlockedBitpacker.{BlockedBitpacker}
 use Rattle.blocked_bitpacker.specs.declared.Stored.{Stored}
 use Rattle.blocked_bitpacker.specs.Store.{damaged_store}
 use Rattle.blocked_bitpacker.specs.Calls.{Changed, refused_call, entries_full, new_of, add_of}
-use Rattle.decimal.specs.declared.Numeral.{Numeral}
-use Rattle.decimal.specs.declared.Numeral.TheVariants.{Number, Empty as EmptyLine, NotADigit as OtherByte, TooLarge as LargeNumber}
+use Rattle.decimal.specs.declared.NumeralError.{NumeralError}
+use Rattle.decimal.specs.declared.NumeralError.TheVariants.{NotADigit}
 use Rattle.decimal.specs.declared.line.Line.{Line}
 use Rattle.decimal.specs.Line.{new_line, byte_of, ended_of}
 use Rattle.terms.specs.declared.Trouble.{Trouble}
-use Rattle.terms.specs.declared.Trouble.TheVariants.{Nothing, Empty, NotADigit, TooLarge, Refused, Cut, NoLine}
+use Rattle.terms.specs.declared.Trouble.TheVariants.{NotANumber, Refused, Cut, NoLine}
 use Rattle.terms.specs.declared.Loading.{Loading}
 use Rattle.terms.specs.declared.Loaded.{Loaded}
 
@@ -30,28 +30,19 @@ add_line_of s v bytes entries =
 
 -- ---- a loading
 
-abbrev pub is_trouble : Trouble → Bool
-is_trouble Nothing = false
-is_trouble Empty = true
-is_trouble (NotADigit _ _) = true
-is_trouble TooLarge = true
-is_trouble (Refused _) = true
-is_trouble Cut = true
-is_trouble NoLine = true
+abbrev pub trouble_of : Result (Unit {0}) Refusal → Option Trouble
+trouble_of (Ok _) = None
+trouble_of (Err why) = Some (Refused why)
 
-abbrev pub trouble_of : Result (Unit {0}) Refusal → Trouble
-trouble_of (Ok _) = Nothing
-trouble_of (Err why) = Refused why
-
-abbrev pub loading_of : BlockedBitpacker → ℕ → Line → Trouble → Loading
+abbrev pub loading_of : BlockedBitpacker → ℕ → Line → Option Trouble → Loading
 loading_of s lines line trouble = record { store = s; lines = lines; line = line; trouble = trouble }
 
 abbrev pub stopped_by : Trouble → Loading → Loading
-stopped_by trouble ld = loading_of ld.store ld.lines ld.line trouble
+stopped_by trouble ld = loading_of ld.store ld.lines ld.line (Some trouble)
 
 -- What the store answered to a line's number.
 abbrev pub answered_by : Result (Unit {0}) Refusal → BlockedBitpacker → Loading → Loading
-answered_by (Ok _) s ld = loading_of s ((ld.lines + 1) % 2 ^ 64) new_line Nothing
+answered_by (Ok _) s ld = loading_of s ((ld.lines + 1) % 2 ^ 64) new_line None
 answered_by (Err why) s ld = stopped_by (Refused why) ld
 
 abbrev pub added_by : Stored → Loading → Loading
@@ -70,17 +61,15 @@ abbrev pub added_to : Loading → Changed → Taken
 added_to ld c = taken (added_by c.stored ld) c.bytes c.entries
 
 -- A line ends, and says this.
-unfoldable pub said_of : Loading → Numeral → List ℕ → List ℕ → Taken
-said_of ld (Number v) bytes entries = added_to ld (add_line_of ld.store v bytes entries)
-said_of ld EmptyLine bytes entries = taken (stopped_by Empty ld) bytes entries
-said_of ld (OtherByte place b) bytes entries = taken (stopped_by (NotADigit place b) ld) bytes entries
-said_of ld LargeNumber bytes entries = taken (stopped_by TooLarge ld) bytes entries
+unfoldable pub said_of : Loading → Result ℕ NumeralError → List ℕ → List ℕ → Taken
+said_of ld (Ok v) bytes entries = added_to ld (add_line_of ld.store v bytes entries)
+said_of ld (Err why) bytes entries = taken (stopped_by (NotANumber why) ld) bytes entries
 
 -- One byte more. A line feed ends a line.
 unfoldable pub next_of : Loading → ℕ → List ℕ → List ℕ → Taken
 next_of ld b bytes entries =
     first_that_holds
-    (check (is_trouble ld.trouble) (taken ld bytes entries) ∷ check (b == 10) (said_of ld (ended_of ld.line) bytes entries) ∷ [])
+    (check (is_some ld.trouble) (taken ld bytes entries) ∷ check (b == 10) (said_of ld (ended_of ld.line) bytes entries) ∷ [])
     (taken (loading_of ld.store ld.lines (byte_of ld.line b) ld.trouble) bytes entries)
 
 unfoldable pub bytes_of : Loading → List ℕ → List ℕ → List ℕ → Taken
@@ -91,7 +80,7 @@ bytes_of ld (b ∷ bs) bytes entries =
 
 -- Nothing that follows changes what the text leads to.
 abbrev pub settled_of : Loading → Bool
-settled_of ld = ld.line.wrong || is_trouble ld.trouble
+settled_of ld = is_some ld.line.wrong || is_some ld.trouble
 
 -- ---- its two ends
 
@@ -110,7 +99,7 @@ pub record Ended : Type 0 where
   pub bytes : List ℕ
   pub entries : List ℕ
 
-abbrev pub loaded_of : BlockedBitpacker → ℕ → Trouble → Loaded
+abbrev pub loaded_of : BlockedBitpacker → ℕ → Option Trouble → Loaded
 loaded_of s lines trouble = record { store = s; lines = lines; trouble = trouble }
 
 abbrev pub ended : Loaded → List ℕ → List ℕ → Ended
@@ -124,16 +113,16 @@ abbrev pub ended_with : Taken → Ended
 ended_with t = ended (loaded_by t.loading) t.bytes t.entries
 
 abbrev pub nothing_read : Line → Bool
-nothing_read l = not l.wrong && not l.after_cr && l.digits == 0
+nothing_read l = not (is_some l.wrong) && not l.after_cr && l.digits == 0
 
 -- The text ends. What follows its last line feed stops it: a byte that may not stand there, or else that the line has no end. So does a text
 -- of no line.
 unfoldable pub end_of : Loading → Loaded
 end_of ld =
     first_that_holds
-    (check (is_trouble ld.trouble) (loaded_by ld)
+    (check (is_some ld.trouble) (loaded_by ld)
     ∷ check (nothing_read ld.line && ld.lines == 0) (loaded_by (stopped_by NoLine ld))
     ∷ check (nothing_read ld.line) (loaded_by ld)
-    ∷ check ld.line.wrong (loaded_by (stopped_by (NotADigit ld.line.digits ld.line.other) ld))
+    ∷ check (is_some ld.line.wrong) (loaded_by (stopped_by (NotANumber (NotADigit ld.line.digits (unwrap_or ld.line.wrong 0))) ld))
     ∷ [])
     (loaded_by (stopped_by Cut ld))

@@ -1,9 +1,9 @@
 -- What a text of numbers says, and that a loading comes to it, however the text is cut into pieces.
-use Rattle.std.specs.Prelude.{◌≡◌, ℕ, ◌+◌, ◌-◌, ◌^◌, ◌<◌, ◌≤◌, Bool, true, false, cond, ◌&&◌, ◌||◌, List, [], ◌∷◌, ◌++◌, map, length, take, ◌==◌, slice_index, Ok, Err, Result}
+use Rattle.std.specs.Prelude.{◌≡◌, ℕ, ◌+◌, ◌-◌, ◌^◌, ◌<◌, ◌≤◌, Bool, true, false, cond, ◌&&◌, ◌||◌, List, [], ◌∷◌, ◌++◌, map, length, take, ◌==◌, slice_index, Option, Some, None, Result, Ok, Err}
 use Rattle.refusal.specs.declared.Refusal.{Refusal}
 use Rattle.blocked_bitpacker.specs.Calls.{Changed, new_of}
-use Rattle.decimal.specs.declared.Numeral.{Numeral}
-use Rattle.decimal.specs.declared.Numeral.TheVariants.{Number, Empty as EmptyLine, NotADigit as OtherByte, TooLarge as LargeNumber}
+use Rattle.decimal.specs.declared.NumeralError.{NumeralError}
+use Rattle.decimal.specs.declared.NumeralError.TheVariants.{Empty, NotADigit, TooLarge}
 use Rattle.decimal.specs.Digits.{numeral, read_of}
 use Rattle.decimal.specs.Line.{without_cr}
 use Rattle.promises.specs.Defined.{Held, held}
@@ -11,7 +11,7 @@ use Rattle.promises.specs.Reply.{values}
 use Rattle.promises.specs.Histories.{Call, add, count, get, reply_of, begun, after, accepted, History}
 use Rattle.promises.specs.Promises.{Found}
 use Rattle.terms.specs.declared.Trouble.{Trouble}
-use Rattle.terms.specs.declared.Trouble.TheVariants.{Nothing, Empty, NotADigit, TooLarge, Refused, Cut, NoLine}
+use Rattle.terms.specs.declared.Trouble.TheVariants.{NotANumber, Refused, Cut, NoLine}
 use Rattle.terms.specs.Loading.{settled_of, add_line_of, Taken, taken, begin_of, bytes_of, Ended, ended, loaded_of, end_of}
 
 -- ---- its lines
@@ -45,34 +45,32 @@ numbers_of text = map numeral (lines_of text)
 
 -- ---- what it leads to
 
-abbrev pub stop : Trouble → ℕ → Held → Ended
+abbrev pub stop : Option Trouble → ℕ → Held → Ended
 stop trouble lines h = ended (loaded_of h.store lines trouble) h.bytes h.entries
 
 -- The store's answer to the number of the line after `lines` others, and then the lines that follow.
 abbrev pub after_answer : Changed → Result (Unit {0}) Refusal → ℕ → Held → (ℕ → Held → Ended) → Ended
 after_answer c (Ok _) lines h next = next (lines + 1) (held c.stored.store c.bytes c.entries)
-after_answer c (Err why) lines h next = stop (Refused why) lines h
+after_answer c (Err why) lines h next = stop (Some (Refused why)) lines h
 
 abbrev pub after_number : Changed → ℕ → Held → (ℕ → Held → Ended) → Ended
 after_number c lines h next = after_answer c c.stored.done lines h next
 
 -- What a line says, and then the lines that follow.
-abbrev pub after_line : Numeral → ℕ → Held → (ℕ → Held → Ended) → Ended
-after_line (Number v) lines h next = after_number (add_line_of h.store v h.bytes h.entries) lines h next
-after_line EmptyLine lines h next = stop Empty lines h
-after_line (OtherByte place b) lines h next = stop (NotADigit place b) lines h
-after_line LargeNumber lines h next = stop TooLarge lines h
+abbrev pub after_line : Result ℕ NumeralError → ℕ → Held → (ℕ → Held → Ended) → Ended
+after_line (Ok v) lines h next = after_number (add_line_of h.store v h.bytes h.entries) lines h next
+after_line (Err why) lines h next = stop (Some (NotANumber why)) lines h
 
 -- What the bytes behind the last line end come to: a byte that may not stand there is told, and else that their line has no end.
-abbrev pub without_end : Numeral → ℕ → Held → Ended
-without_end (Number v) lines h = stop Cut lines h
-without_end EmptyLine lines h = stop Cut lines h
-without_end (OtherByte place b) lines h = stop (NotADigit place b) lines h
-without_end LargeNumber lines h = stop Cut lines h
+abbrev pub without_end : Result ℕ NumeralError → ℕ → Held → Ended
+without_end (Ok v) lines h = stop (Some Cut) lines h
+without_end (Err Empty) lines h = stop (Some Cut) lines h
+without_end (Err (NotADigit place b)) lines h = stop (Some (NotANumber (NotADigit place b))) lines h
+without_end (Err TooLarge) lines h = stop (Some Cut) lines h
 
 -- After the last line: nothing may follow it, and there was at least one.
 abbrev pub after_last : List ℕ → ℕ → Held → Ended
-after_last [] lines h = stop (cond (lines == 0) NoLine Nothing) lines h
+after_last [] lines h = stop (cond (lines == 0) (Some NoLine) None) lines h
 after_last (b ∷ bs) lines h = without_end (read_of (without_cr (b ∷ bs))) lines h
 
 -- The lines' numbers are added one after the other. The first line that is no number, or whose number is refused, stops it.
@@ -83,7 +81,7 @@ load_lines rest (l ∷ ls) lines h = after_line (read_of l) lines h (load_lines 
 -- The same from a new store, which cannot be made on fewer than eight bytes.
 abbrev pub on_new : Result (Unit {0}) Refusal → List ℕ → Held → Ended
 on_new (Ok _) text h = load_lines (rest_of text) (lines_of text) 0 h
-on_new (Err why) text h = stop (Refused why) 0 h
+on_new (Err why) text h = stop (Some (Refused why)) 0 h
 
 unfoldable pub load_of : List ℕ → List ℕ → List ℕ → Ended
 load_of text bytes entries = on_new (new_of bytes).stored.done text (begun bytes entries)
@@ -130,9 +128,9 @@ pub record Holds (text bytes entries : List ℕ) (r : Ended) : Type 0 where
   pub history : History bytes (adds numbers)
   pub added : held r.loaded.store r.bytes r.entries ≡ after (adds numbers) (begun bytes entries)
   pub all_accepted : accepted (adds numbers) (begun bytes entries) ≡ numbers
-  pub whole : r.loaded.trouble ≡ Nothing → numbers ≡ numbers_of text
-  pub ended_line : r.loaded.trouble ≡ Nothing → rest_of text ≡ []
-  pub some : r.loaded.trouble ≡ Nothing → 0 < length numbers
+  pub whole : r.loaded.trouble ≡ None → numbers ≡ numbers_of text
+  pub ended_line : r.loaded.trouble ≡ None → rest_of text ≡ []
+  pub some : r.loaded.trouble ≡ None → 0 < length numbers
 
 abbrev pub TheStoreHoldsTheNumbers : Type 0
 TheStoreHoldsTheNumbers = (text bytes entries : List ℕ) → 8 ≤ length bytes → Holds text bytes entries (load_of text bytes entries)
@@ -140,7 +138,7 @@ TheStoreHoldsTheNumbers = (text bytes entries : List ℕ) → 8 ≤ length bytes
 -- Of a text that nothing stopped: the store's count, and how many lines were added, are the number of its lines.
 abbrev pub TheCountIsTheLines : Type 0
 TheCountIsTheLines =
-    (text bytes entries : List ℕ) → 8 ≤ length bytes → (load_of text bytes entries).loaded.trouble ≡ Nothing
+    (text bytes entries : List ℕ) → 8 ≤ length bytes → (load_of text bytes entries).loaded.trouble ≡ None
     → let r = load_of text bytes entries in
     (reply_of count (held r.loaded.store r.bytes r.entries) ≡ values (length (lines_of text) ∷ []))
     × (r.loaded.lines ≡ length (lines_of text))
@@ -148,7 +146,7 @@ TheCountIsTheLines =
 -- Of a text that nothing stopped: the value that is read at an index is the number of the line with that index, counted from 0.
 abbrev pub WhatIsInTheTextIsRead : Type 0
 WhatIsInTheTextIsRead =
-    (text bytes entries : List ℕ) → 8 ≤ length bytes → (load_of text bytes entries).loaded.trouble ≡ Nothing
+    (text bytes entries : List ℕ) → 8 ≤ length bytes → (load_of text bytes entries).loaded.trouble ≡ None
     → (i : ℕ) → i < length (lines_of text)
     → let r = load_of text bytes entries in
     reply_of (get i) (held r.loaded.store r.bytes r.entries) ≡ values (slice_index (numbers_of text) i ∷ [])
@@ -156,7 +154,7 @@ WhatIsInTheTextIsRead =
 -- Of a text that nothing stopped: a search of the store lists exactly the lines, counted from 0, whose number lies in the interval.
 abbrev pub NobodyInTheTextIsMissing : Type 0
 NobodyInTheTextIsMissing =
-    (text bytes entries : List ℕ) → 8 ≤ length bytes → (load_of text bytes entries).loaded.trouble ≡ Nothing
+    (text bytes entries : List ℕ) → 8 ≤ length bytes → (load_of text bytes entries).loaded.trouble ≡ None
     → (lo hi start end : ℕ) (positions : List ℕ) → end ≤ length (numbers_of text) → end - start ≤ length positions
     → let r = load_of text bytes entries in
     Found (numbers_of text) lo hi start end positions (held r.loaded.store r.bytes r.entries)

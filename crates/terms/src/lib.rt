@@ -4,10 +4,11 @@
 
 ghost use Rattle.std.specs.Prelude.{◌≡◌};
 ghost use Rattle.blocked_bitpacker.specs.Calls.{changed, refused_with};
-ghost use Rattle.terms.specs.Loading.{is_trouble, trouble_of, nothing_read, add_line_of, stopped_by, added_by, begun, begin_of, taken, said_of, bytes_of, settled_of, loaded_of, end_of};
+ghost use Rattle.terms.specs.declared.Trouble.TheVariants.{NotANumber, Refused};
+ghost use Rattle.terms.specs.Loading.{nothing_read, add_line_of, stopped_by, added_by, begun, begin_of, taken, said_of, bytes_of, settled_of, loaded_by, end_of};
 
 use blocked_bitpacker::{BlockedBitpacker, Stored};
-use decimal::{Line, Numeral};
+use decimal::{Line, NumeralError};
 use refusal::Refusal;
 use std::num::wrapping_add_usize;
 
@@ -15,67 +16,50 @@ use std::num::wrapping_add_usize;
 // line without its line end, which may have been cut, or that there is no line at all.
 #[derive(Clone, Copy)]
 pub enum Trouble {
-    Nothing,
-    Empty,
-    NotADigit(usize, u8),
-    TooLarge,
+    NotANumber(NumeralError),
     Refused(Refusal),
     Cut,
     NoLine,
 }
 
+impl From<NumeralError> for Trouble {
+    ghost from_gives = { λ why trouble. trouble ≡ NotANumber why };
+
+    fn from(why: NumeralError) -> Trouble {
+        Trouble::NotANumber(why)
+    }
+}
+
+impl From<Refusal> for Trouble {
+    ghost from_gives = { λ why trouble. trouble ≡ Refused why };
+
+    fn from(why: Refusal) -> Trouble {
+        Trouble::Refused(why)
+    }
+}
+
 // The store so far, how many lines were added to it, modulo 2^64, what is known of the line that goes on,
-// and what stopped it.
+// and what stopped it, if anything did.
 #[derive(Clone, Copy)]
 pub struct Loading {
     pub store: BlockedBitpacker,
     pub lines: usize,
     pub line: Line,
-    pub trouble: Trouble,
+    pub trouble: Option<Trouble>,
 }
 
-// What a whole text led to. The line that stopped it is the one after those that were added.
+// What a whole text led to. The line that stopped it, if one did, is the one after those that were added.
 #[derive(Clone, Copy)]
 pub struct Loaded {
     pub store: BlockedBitpacker,
     pub lines: usize,
-    pub trouble: Trouble,
-}
-
-// Whether it stopped.
-pub fn is_trouble(trouble: Trouble) -> bool
-    ensures { result ≡ is_trouble trouble }
-{
-    match trouble {
-        Trouble::Nothing => false,
-        Trouble::Empty => true,
-        Trouble::NotADigit(_, _) => true,
-        Trouble::TooLarge => true,
-        Trouble::Refused(_) => true,
-        Trouble::Cut => true,
-        Trouble::NoLine => true,
-    }
-}
-
-fn trouble_of(done: Result<(), Refusal>) -> Trouble
-    ensures { result ≡ trouble_of done }
-{
-    match done {
-        Ok(()) => Trouble::Nothing,
-        Err(why) => Trouble::Refused(why),
-    }
+    pub trouble: Option<Trouble>,
 }
 
 fn nothing_read(line: Line) -> bool
     ensures { result ≡ nothing_read line }
 {
-    if line.wrong {
-        return false;
-    }
-    if line.after_cr {
-        return false;
-    }
-    line.digits == 0
+    line.wrong.is_none() && !line.after_cr && line.digits == 0
 }
 
 fn refused(why: Refusal, store: BlockedBitpacker) -> Stored
@@ -111,26 +95,20 @@ impl Loading {
         ensures { begun result bytes.new ≡ begin_of bytes.old }
     {
         let made = BlockedBitpacker::new(bytes);
-        let store = made.store;
-        let done = made.done;
         Loading {
-            store,
+            store: made.store,
             lines: 0,
             line: Line::new(),
-            trouble: trouble_of(done),
+            trouble: made.done.err().map(Trouble::from),
         }
     }
 
     fn stopped(self, trouble: Trouble) -> Loading
         ensures { result ≡ stopped_by trouble self }
     {
-        let store = self.store;
-        let line = self.line;
         Loading {
-            store,
-            lines: self.lines,
-            line,
-            trouble,
+            trouble: Some(trouble),
+            ..self
         }
     }
 
@@ -138,28 +116,29 @@ impl Loading {
     fn added(self, stored: Stored) -> Loading
         ensures { result ≡ added_by stored self }
     {
-        let store = stored.store;
-        let done = stored.done;
-        match done {
+        match stored.done {
             Ok(()) => Loading {
-                store,
+                store: stored.store,
                 lines: wrapping_add_usize(self.lines, 1),
                 line: Line::new(),
-                trouble: Trouble::Nothing,
+                trouble: None,
             },
-            Err(why) => self.stopped(Trouble::Refused(why)),
+            Err(why) => self.stopped(why.into()),
         }
     }
 
     // The line ends, and says this.
-    fn said(self, numeral: Numeral, bytes: &mut [u8], entries: &mut [u64]) -> Loading
+    fn said(
+        self,
+        numeral: Result<u64, NumeralError>,
+        bytes: &mut [u8],
+        entries: &mut [u64],
+    ) -> Loading
         ensures { taken result bytes.new entries.new ≡ said_of self numeral bytes.old entries.old }
     {
         match numeral {
-            Numeral::Number(value) => self.added(add(self.store, value, bytes, entries)),
-            Numeral::Empty => self.stopped(Trouble::Empty),
-            Numeral::NotADigit(place, byte) => self.stopped(Trouble::NotADigit(place, byte)),
-            Numeral::TooLarge => self.stopped(Trouble::TooLarge),
+            Ok(value) => self.added(add(self.store, value, bytes, entries)),
+            Err(why) => self.stopped(why.into()),
         }
     }
 
@@ -167,63 +146,37 @@ impl Loading {
     pub fn take(self, text: &[u8], bytes: &mut [u8], entries: &mut [u64]) -> Loading
         ensures { taken result bytes.new entries.new ≡ bytes_of self text.now bytes.old entries.old }
     {
-        let trouble = self.trouble;
-        if is_trouble(trouble) {
+        if self.trouble.is_some() {
             return self;
         }
-        let mut store = self.store;
-        let mut lines = self.lines;
-        let mut line = self.line;
-        let mut i = 0;
-        while i < text.len() {
-            if text[i] == b'\n' {
-                let loading = Loading {
-                    store,
-                    lines,
-                    line,
-                    trouble,
-                };
-                let next = loading.said(line.ended(), bytes, entries);
-                let stopped_by = next.trouble;
-                if is_trouble(stopped_by) {
-                    return next;
+        let mut loading = self;
+        for byte in text {
+            if *byte == b'\n' {
+                loading = loading.said(loading.line.ended(), bytes, entries);
+                if loading.trouble.is_some() {
+                    return loading;
                 }
-                store = next.store;
-                lines = next.lines;
-                line = next.line;
             } else {
-                line = line.byte(text[i]);
+                loading.line = loading.line.byte(*byte);
             }
-            i += 1;
         }
-        Loading {
-            store,
-            lines,
-            line,
-            trouble,
-        }
+        loading
     }
 
     // Whether nothing that follows can change what the text leads to.
     pub fn settled(self) -> bool
         ensures { result ≡ settled_of self }
     {
-        if self.line.wrong {
-            return true;
-        }
-        let trouble = self.trouble;
-        is_trouble(trouble)
+        self.line.wrong.is_some() || self.trouble.is_some()
     }
 
     fn loaded(self) -> Loaded
-        ensures { result ≡ loaded_of self.store self.lines self.trouble }
+        ensures { result ≡ loaded_by self }
     {
-        let store = self.store;
-        let trouble = self.trouble;
         Loaded {
-            store,
+            store: self.store,
             lines: self.lines,
-            trouble,
+            trouble: self.trouble,
         }
     }
 
@@ -233,21 +186,18 @@ impl Loading {
     pub fn end(self) -> Loaded
         ensures { result ≡ end_of self }
     {
-        let trouble = self.trouble;
-        if is_trouble(trouble) {
+        if self.trouble.is_some() {
             return self.loaded();
         }
-        let line = self.line;
-        if nothing_read(line) {
+        if nothing_read(self.line) {
             if self.lines == 0 {
                 return self.stopped(Trouble::NoLine).loaded();
             }
             return self.loaded();
         }
-        if line.wrong {
-            return self
-                .stopped(Trouble::NotADigit(line.digits, line.other))
-                .loaded();
+        if let Some(byte) = self.line.wrong {
+            let why = NumeralError::NotADigit(self.line.digits, byte);
+            return self.stopped(why.into()).loaded();
         }
         self.stopped(Trouble::Cut).loaded()
     }
