@@ -1,5 +1,5 @@
 -- A line's number, added: what is refused leaves both areas as they were, and what is accepted is what the store's own add does.
-use Rattle.std.specs.Prelude.{Ok, Err}
+use Rattle.std.specs.Prelude.{Err}
 use Rattle.std.proofs.Common.{◌≡◌, ℕ, Bool, true, false, cond, length, refl, ap, arith}
 use Rattle.blocked_bitpacker.specs.Calls.{Changed, refused_call, entries_full, add_of}
 use Rattle.blocked_bitpacker.specs.Store.{damaged_store}

@@ -1,14 +1,13 @@
 -- The store then holds the text's numbers: each accepted line's number is its numeral, adding it is the store's own add, and so the store is
 -- that of a history of adds, of which the promises speak.
-use Rattle.std.specs.Prelude.{Ok, Err, Result}
-use Rattle.std.proofs.Common.{◌≡◌, ℕ, suc, ◌+◌, ◌^◌, ◌<◌, ◌≤◌, Bool, true, false, cond, eqb, ltb, leb, List, [], ◌∷◌, ◌++◌, map, length, get_or, take, sym, refl, ap, ◌∙◌, subst, ap₂, subst₂, true≢false, append-nil, pos_of_ne-zero, arith, le-ltb, leb-false}
+use Rattle.std.proofs.Common.{◌≡◌, ℕ, suc, ◌+◌, ◌^◌, ◌<◌, ◌≤◌, Bool, true, false, cond, eqb, ltb, leb, Option, Some, None, is_some, Result, Ok, Err, List, [], ◌∷◌, ◌++◌, map, length, get_or, take, sym, refl, ap, ◌∙◌, subst, ap₂, subst₂, true≢false, append-nil, pos_of_ne-zero, arith, le-ltb, leb-false}
 use Rattle.refusal.specs.declared.Refusal.{Refusal}
 use Rattle.refusal.specs.Done.{done}
 use lib.ListN.{length-map}
 use borrow.Author.Tests.{eqb-false}
 use Rattle.blocked_bitpacker.specs.Calls.{new_of}
-use Rattle.decimal.specs.declared.Numeral.{Numeral}
-use Rattle.decimal.specs.declared.Numeral.TheVariants.{Number, Empty as EmptyLine, NotADigit as OtherByte, TooLarge as LargeNumber}
+use Rattle.decimal.specs.declared.NumeralError.{NumeralError}
+use Rattle.decimal.specs.declared.NumeralError.TheVariants.{Empty, NotADigit, TooLarge}
 use Rattle.decimal.specs.Digits.{first_other, numeral, number_or_too_large, read_of}
 use Rattle.decimal.specs.Line.{without_cr}
 use Rattle.promises.specs.Reply.{values, done_reply}
@@ -17,8 +16,8 @@ use Rattle.promises.specs.Histories.{Call, add, count, get, outcome_of, reply_of
 use Rattle.promises.specs.Promises.{Found}
 use Rattle.promises.proofs.Promises.{what_was_added_is_what_is_read, nobody_is_missing}
 use Rattle.terms.specs.declared.Trouble.{Trouble}
-use Rattle.terms.specs.declared.Trouble.TheVariants.{Nothing, Empty, NotADigit, TooLarge, Refused, Cut, NoLine}
-use Rattle.terms.specs.Loading.{is_trouble, Ended}
+use Rattle.terms.specs.declared.Trouble.TheVariants.{NotANumber, Refused, Cut, NoLine}
+use Rattle.terms.specs.Loading.{Ended}
 use Rattle.terms.specs.Text.{lines_of, rest_of, numbers_of, stop, after_answer, after_line, without_end, after_last, load_lines, on_new, load_of, adds, Holds, TheStoreHoldsTheNumbers, TheCountIsTheLines, WhatIsInTheTextIsRead, NobodyInTheTextIsMissing}
 use Rattle.terms.proofs.Adding.{addLineIn, accepted_is_add}
 
@@ -28,12 +27,12 @@ record Reads (l : List ℕ) (v : ℕ) : Type 0 where
   value : v ≡ numeral l
   word : v < 2 ^ 64
 
-reads : (l : List ℕ) (v : ℕ) → read_of l ≡ Number v → Reads l v
+reads : (l : List ℕ) (v : ℕ) → read_of l ≡ Ok v → Reads l v
 unfolding read_of number_or_too_large
 reads l v is = by_tests (eqb (length l) 0) (ltb (first_other l) (length l)) (leb (2 ^ 64) (numeral l)) refl is
   where
     by_tests : (none other large : Bool) → leb (2 ^ 64) (numeral l) ≡ large
-        → cond none EmptyLine (cond other (OtherByte (first_other l) (get_or l (first_other l) 0)) (cond large LargeNumber (Number (numeral l)))) ≡ Number v → Reads l v
+        → cond none (Err Empty) (cond other (Err (NotADigit (first_other l) (get_or l (first_other l) 0))) (cond large (Err TooLarge) (Ok (numeral l)))) ≡ Ok v → Reads l v
     by_tests true other large fits h = absurd (let z : ◌≡◌ {A = ℕ} 0 1 = cc in omega arith)
     by_tests false true large fits h = absurd (let z : ◌≡◌ {A = ℕ} 0 1 = cc in omega arith)
     by_tests false false true fits h = absurd (let z : ◌≡◌ {A = ℕ} 0 1 = cc in omega arith)
@@ -56,12 +55,12 @@ record HoldsFrom (rest : List ℕ) (ls : List (List ℕ)) (lines : ℕ) (h : Hel
   words : WordsAdded (adds numbers)
   added : held_of r ≡ after (adds numbers) h
   all_accepted : accepted (adds numbers) h ≡ numbers
-  whole : r.loaded.trouble ≡ Nothing → numbers ≡ map numeral ls
-  ended_line : r.loaded.trouble ≡ Nothing → rest ≡ []
-  some : r.loaded.trouble ≡ Nothing → 0 < lines + more
+  whole : r.loaded.trouble ≡ None → numbers ≡ map numeral ls
+  ended_line : r.loaded.trouble ≡ None → rest ≡ []
+  some : r.loaded.trouble ≡ None → 0 < lines + more
 
-holds_none : (rest : List ℕ) (ls : List (List ℕ)) (lines : ℕ) (h : Held) (trouble : Trouble)
-    → (trouble ≡ Nothing → ([] ≡ map numeral ls) × (rest ≡ []) × (0 < lines)) → HoldsFrom rest ls lines h (stop trouble lines h)
+holds_none : (rest : List ℕ) (ls : List (List ℕ)) (lines : ℕ) (h : Held) (trouble : Option Trouble)
+    → (trouble ≡ None → ([] ≡ map numeral ls) × (rest ≡ []) × (0 < lines)) → HoldsFrom rest ls lines h (stop trouble lines h)
 unfolding held_of after accepted
 holds_none rest ls lines h trouble all =
     record {
@@ -79,24 +78,24 @@ holds_none rest ls lines h trouble all =
     }
 
 -- where a line stopped it
-holds_stopped : (rest : List ℕ) (ls : List (List ℕ)) (lines : ℕ) (h : Held) (trouble : Trouble) → is_trouble trouble ≡ true
-    → HoldsFrom rest ls lines h (stop trouble lines h)
-holds_stopped rest ls lines h trouble is = holds_none rest ls lines h trouble (λ none. absurd (true≢false (sym is ∙ ap is_trouble none)))
+holds_stopped : (rest : List ℕ) (ls : List (List ℕ)) (lines : ℕ) (h : Held) (trouble : Trouble)
+    → HoldsFrom rest ls lines h (stop (Some trouble) lines h)
+holds_stopped rest ls lines h trouble = holds_none rest ls lines h (Some trouble) (λ none. absurd (true≢false (ap is_some none)))
 
 -- where the lines are at their end
 holds_last : (rest : List ℕ) (lines : ℕ) (h : Held) → HoldsFrom rest [] lines h (after_last rest lines h)
 holds_last [] lines h = by_count (eqb lines 0) refl
   where
-    by_count : (none : Bool) → eqb lines 0 ≡ none → HoldsFrom [] [] lines h (stop (cond none NoLine Nothing) lines h)
-    by_count true is = holds_stopped [] [] lines h NoLine refl
-    by_count false is = holds_none [] [] lines h Nothing (λ none. (refl, refl, pos_of_ne-zero (eqb-false lines 0 is)))
+    by_count : (none : Bool) → eqb lines 0 ≡ none → HoldsFrom [] [] lines h (stop (cond none (Some NoLine) None) lines h)
+    by_count true is = holds_stopped [] [] lines h NoLine
+    by_count false is = holds_none [] [] lines h None (λ none. (refl, refl, pos_of_ne-zero (eqb-false lines 0 is)))
 holds_last (b ∷ bs) lines h = by_read (read_of (without_cr (b ∷ bs)))
   where
-    by_read : (q : Numeral) → HoldsFrom (b ∷ bs) [] lines h (without_end q lines h)
-    by_read (Number v) = holds_stopped (b ∷ bs) [] lines h Cut refl
-    by_read EmptyLine = holds_stopped (b ∷ bs) [] lines h Cut refl
-    by_read (OtherByte place c) = holds_stopped (b ∷ bs) [] lines h (NotADigit place c) refl
-    by_read LargeNumber = holds_stopped (b ∷ bs) [] lines h Cut refl
+    by_read : (q : Result ℕ NumeralError) → HoldsFrom (b ∷ bs) [] lines h (without_end q lines h)
+    by_read (Ok v) = holds_stopped (b ∷ bs) [] lines h Cut
+    by_read (Err Empty) = holds_stopped (b ∷ bs) [] lines h Cut
+    by_read (Err (NotADigit place c)) = holds_stopped (b ∷ bs) [] lines h (NotANumber (NotADigit place c))
+    by_read (Err TooLarge) = holds_stopped (b ∷ bs) [] lines h Cut
 
 -- the number of the first line, which was accepted, and those behind it
 module _ (h : Held) (v : ℕ) (is : (addLineIn h v).stored.done ≡ done) where
@@ -142,14 +141,12 @@ module _ (left : List ℕ) where
           → ((lines : ℕ) (h : Held) → HoldsFrom left ls lines h (load_lines left ls lines h))
           → HoldsFrom left (l ∷ ls) lines h (after_answer (addLineIn h v) done lines h (load_lines left ls))
       by_answer v (Ok _) is line rest = holds_more h v is left l ls lines _ line (rest (lines + 1) (after_add h v is))
-      by_answer v (Err why) is line rest = holds_stopped left (l ∷ ls) lines h (Refused why) refl
+      by_answer v (Err why) is line rest = holds_stopped left (l ∷ ls) lines h (Refused why)
 
-      by_line : (q : Numeral) → read_of l ≡ q → ((lines : ℕ) (h : Held) → HoldsFrom left ls lines h (load_lines left ls lines h))
+      by_line : (q : Result ℕ NumeralError) → read_of l ≡ q → ((lines : ℕ) (h : Held) → HoldsFrom left ls lines h (load_lines left ls lines h))
           → HoldsFrom left (l ∷ ls) lines h (after_line q lines h (load_lines left ls))
-      by_line (Number v) is rest = by_answer v (addLineIn h v).stored.done refl (reads l v is) rest
-      by_line EmptyLine is rest = holds_stopped left (l ∷ ls) lines h Empty refl
-      by_line (OtherByte place b) is rest = holds_stopped left (l ∷ ls) lines h (NotADigit place b) refl
-      by_line LargeNumber is rest = holds_stopped left (l ∷ ls) lines h TooLarge refl
+      by_line (Ok v) is rest = by_answer v (addLineIn h v).stored.done refl (reads l v is) rest
+      by_line (Err why) is rest = holds_stopped left (l ∷ ls) lines h (NotANumber why)
 
 -- ---- from a new store
 
@@ -181,7 +178,7 @@ the_store_holds_the_numbers text bytes entries room =
     })
 
 -- Of a text that nothing stopped: what it led to is a history of adds, which accepted the text's numbers.
-module _ (text bytes entries : List ℕ) (room : 8 ≤ length bytes) (nothing : (load_of text bytes entries).loaded.trouble ≡ Nothing) where
+module _ (text bytes entries : List ℕ) (room : 8 ≤ length bytes) (nothing : (load_of text bytes entries).loaded.trouble ≡ None) where
   abbrev all : Holds text bytes entries (load_of text bytes entries)
   all = the_store_holds_the_numbers text bytes entries room
 

@@ -1,6 +1,5 @@
 -- What the checks of the definitions come to where they hold, and where they do not; and what is left of a text after a byte of it.
-use Rattle.std.specs.Prelude.{Err}
-use Rattle.std.proofs.Common.{◌≡◌, ℕ, ◌+◌, ◌*◌, ◌<◌, ◌≤◌, Bool, true, false, cond, ◌&&◌, eqb, List, [], ◌∷◌, length, get_or, drop, sym, refl, ap, ◌∙◌, ap₂, add-one, arith, drop_of_length-le, drop-cons, le-ltb, lt-ltb, eq-eqb, ne_eqb}
+use Rattle.std.proofs.Common.{◌≡◌, ℕ, ◌+◌, ◌*◌, ◌<◌, ◌≤◌, Bool, true, false, cond, ◌&&◌, eqb, Some, is_some, unwrap_or, Result, Err, List, [], ◌∷◌, length, get_or, drop, sym, refl, ap, ◌∙◌, add-one, arith, drop_of_length-le, drop-cons, le-ltb, lt-ltb, eq-eqb, ne_eqb}
 use Rattle.refusal.specs.declared.Refusal.{Refusal}
 use Rattle.refusal.specs.declared.Refusal.TheVariants.{EntriesFull}
 use Rattle.blocked_bitpacker.specs.declared.BlockedBitpacker.{BlockedBitpacker}
@@ -8,15 +7,15 @@ use Rattle.blocked_bitpacker.specs.declared.Stored.{Stored}
 use Rattle.blocked_bitpacker.specs.Store.{block_limit, damaged_store}
 use Rattle.blocked_bitpacker.specs.Calls.{changed, refused_call, add_of, counted_of}
 use Rattle.blocked_bitpacker.proofs.Counting.{not_counted}
-use Rattle.decimal.specs.declared.Numeral.{Numeral}
+use Rattle.decimal.specs.declared.NumeralError.{NumeralError}
+use Rattle.decimal.specs.declared.NumeralError.TheVariants.{NotADigit}
 use Rattle.decimal.specs.declared.line.Line.{Line}
 use Rattle.decimal.specs.Line.{byte_of, ended_of}
-use Rattle.terms.specs.declared.Trouble.{Trouble}
-use Rattle.terms.specs.declared.Trouble.TheVariants.{Nothing, Empty, NotADigit, TooLarge, Refused, Cut, NoLine}
+use Rattle.terms.specs.declared.Trouble.TheVariants.{NotANumber, Cut, NoLine}
 use Rattle.terms.specs.declared.Loading.{Loading}
 use Rattle.terms.specs.declared.Loaded.{Loaded}
-use Rattle.terms.specs.Loading.{add_line_of, is_trouble, loading_of, Taken, taken, said_of, next_of, bytes_of}
-use Rattle.terms.specs.Loading.{begun, stopped_by, loaded_by, nothing_read, end_of}
+use Rattle.terms.specs.Loading.{add_line_of, loading_of, Taken, taken, said_of, next_of, bytes_of}
+use Rattle.terms.specs.Loading.{stopped_by, loaded_by, nothing_read, end_of}
 
 -- ---- one number
 
@@ -46,56 +45,30 @@ module _ (s : BlockedBitpacker) (bytes entries : List ℕ) where
 pub same_changed : {r r' : Stored} (bytes entries : List ℕ) → r ≡ r' → changed r bytes entries ≡ changed r' bytes entries
 same_changed bytes entries e = ap (λ r. changed r bytes entries) e
 
-pub same_taken : {ld ld' : Loading} (bytes entries : List ℕ) → ld ≡ ld' → taken ld bytes entries ≡ taken ld' bytes entries
-same_taken bytes entries e = ap (λ ld. taken ld bytes entries) e
-
-pub same_said : (ld : Loading) {numeral numeral' : Numeral} (bytes entries : List ℕ) → numeral ≡ numeral'
-    → said_of ld numeral bytes entries ≡ said_of ld numeral' bytes entries
-same_said ld bytes entries e = ap (λ numeral. said_of ld numeral bytes entries) e
+pub same_taken : {ld ld' : Loading} {bytes bytes' entries entries' : List ℕ} → ld ≡ ld' → bytes ≡ bytes' → entries ≡ entries'
+    → taken ld bytes entries ≡ taken ld' bytes' entries'
+same_taken el eb ee = cc
 
 -- what a loading that was handed on says of itself
 pub same_loaded : {r : Loaded} {ld ld' : Loading} → r ≡ loaded_by ld → ld ≡ ld' → r ≡ loaded_by ld'
 same_loaded r e = r ∙ ap loaded_by e
 
-pub same_begun : (s : BlockedBitpacker) (bytes : List ℕ) {line line' : Line} {trouble trouble' : Trouble} → line ≡ line' → trouble ≡ trouble'
-    → begun (loading_of s 0 line trouble) bytes ≡ begun (loading_of s 0 line' trouble') bytes
-same_begun s bytes line trouble = ap₂ (λ l t. begun (loading_of s 0 l t) bytes) line trouble
-
-pub same_parts : {s s' : BlockedBitpacker} {lines lines' : ℕ} {line line' : Line} {trouble trouble' : Trouble}
-    {bytes bytes' entries entries' : List ℕ} → s ≡ s' → lines ≡ lines' → line ≡ line' → trouble ≡ trouble' → bytes ≡ bytes' → entries ≡ entries'
-    → taken (loading_of s lines line trouble) bytes entries ≡ taken (loading_of s' lines' line' trouble') bytes' entries'
-same_parts es el eline et eb ee = cc
-
--- ---- a line of which nothing is read
-
-pub no_digits : (l : Line) → l.wrong ≡ false → l.after_cr ≡ false → eqb l.digits 0 ≡ nothing_read l
-no_digits l right no-cr = sym (simp (right, no-cr))
-
 -- ---- one byte
 
-abbrev with_line : Loading → Line → Loading
+abbrev pub with_line : Loading → Line → Loading
 with_line ld line = loading_of ld.store ld.lines line ld.trouble
 
-pub no_trouble : (trouble : Trouble) → is_trouble trouble ≡ false → trouble ≡ Nothing
-no_trouble Nothing none = refl
-no_trouble Empty none = absurd (let z : ◌≡◌ {A = ℕ} 0 1 = cc in omega arith)
-no_trouble (NotADigit place b) none = absurd (let z : ◌≡◌ {A = ℕ} 0 1 = cc in omega arith)
-no_trouble TooLarge none = absurd (let z : ◌≡◌ {A = ℕ} 0 1 = cc in omega arith)
-no_trouble (Refused why) none = absurd (let z : ◌≡◌ {A = ℕ} 0 1 = cc in omega arith)
-no_trouble Cut none = absurd (let z : ◌≡◌ {A = ℕ} 0 1 = cc in omega arith)
-no_trouble NoLine none = absurd (let z : ◌≡◌ {A = ℕ} 0 1 = cc in omega arith)
-
 module _ (ld : Loading) (bytes entries : List ℕ) where
-  next_feed : (b : ℕ) → is_trouble ld.trouble ≡ false → b ≡ 10 → next_of ld b bytes entries ≡ said_of ld (ended_of ld.line) bytes entries
+  next_feed : (b : ℕ) → is_some ld.trouble ≡ false → b ≡ 10 → next_of ld b bytes entries ≡ said_of ld (ended_of ld.line) bytes entries
   unfolding next_of
   next_feed b untroubled feed = simp (untroubled, eq-eqb b 10 feed)
 
-  next_other : (b : ℕ) → is_trouble ld.trouble ≡ false → eqb b 10 ≡ false
+  next_other : (b : ℕ) → is_some ld.trouble ≡ false → eqb b 10 ≡ false
       → next_of ld b bytes entries ≡ taken (with_line ld (byte_of ld.line b)) bytes entries
   unfolding next_of
   next_other b untroubled other = simp (untroubled, other)
 
-  next_troubled : (b : ℕ) → is_trouble ld.trouble ≡ true → next_of ld b bytes entries ≡ taken ld bytes entries
+  next_troubled : (b : ℕ) → is_some ld.trouble ≡ true → next_of ld b bytes entries ≡ taken ld bytes entries
   unfolding next_of
   next_troubled b troubled = simp troubled
 
@@ -106,7 +79,7 @@ abbrev pub goes_on : Taken → List ℕ → Taken
 goes_on t rest = bytes_of t.loading rest t.bytes t.entries
 
 -- After what stopped it, nothing more changes it.
-pub trouble_stays : (ld : Loading) (rest bytes entries : List ℕ) → is_trouble ld.trouble ≡ true
+pub trouble_stays : (ld : Loading) (rest bytes entries : List ℕ) → is_some ld.trouble ≡ true
     → bytes_of ld rest bytes entries ≡ taken ld bytes entries
 unfolding bytes_of
 trouble_stays ld [] bytes entries troubled = refl
@@ -121,52 +94,35 @@ one_byte ld text i bytes entries h =
     ∙ ap (λ n. goes_on (next_of ld (get_or text i 0) bytes entries) (drop n text)) (sym (add-one i))
 
 -- What a loop over a text keeps: what is left of it leads from here where the whole leads from its beginning.
-pub record Loads (ld₀ : Loading) (text bytes₀ entries₀ : List ℕ) (i : ℕ) (t : Taken) : Type 0 where
-  pub rest : goes_on t (drop i text) ≡ bytes_of ld₀ text bytes₀ entries₀
-  pub same_bytes : length t.bytes ≡ length bytes₀
-  pub same_entries : length t.entries ≡ length entries₀
+abbrev pub Loads : Taken → List ℕ → ℕ → Taken → Type 0
+Loads whole text i t = goes_on t (drop i text) ≡ whole
 
-module _ (ld₀ : Loading) (text bytes₀ entries₀ : List ℕ) where
-  pub loads_starts : Loads ld₀ text bytes₀ entries₀ 0 (taken ld₀ bytes₀ entries₀)
-  loads_starts = record { rest = refl; same_bytes = refl; same_entries = refl }
+module _ (whole : Taken) (text : List ℕ) (i : ℕ) (t : Taken) (inv : Loads whole text i t) where
+  -- where something stopped it, or at the text's end, it is what the whole leads to
+  pub loads_stops : is_some t.loading.trouble ≡ true → t ≡ whole
+  loads_stops troubled = sym (trouble_stays t.loading (drop i text) t.bytes t.entries troubled) ∙ inv
 
-  module _ (i : ℕ) (t t' : Taken) (inv : Loads ld₀ text bytes₀ entries₀ i t) (more : i < length text) where
+  pub loads_ends : length text ≤ i → t ≡ whole
+  unfolding bytes_of
+  loads_ends done = ap (goes_on t) (sym (drop_of_length-le text done)) ∙ inv
+
+  module _ (more : i < length text) (going : is_some t.loading.trouble ≡ false) (t' : Taken) where
     -- a byte that leads to t'
-    loads_next : t' ≡ next_of t.loading (get_or text i 0) t.bytes t.entries → length t'.bytes ≡ length t.bytes
-        → length t'.entries ≡ length t.entries → Loads ld₀ text bytes₀ entries₀ (i + 1) t'
-    loads_next next kept-bytes kept-entries =
-        record {
-          rest =
-              ap (λ u. goes_on u (drop (i + 1) text)) next ∙ sym (one_byte t.loading text i t.bytes t.entries more) ∙ inv.rest;
-          same_bytes = kept-bytes ∙ inv.same_bytes;
-          same_entries = kept-entries ∙ inv.same_entries;
-        }
+    loads_next : t' ≡ next_of t.loading (get_or text i 0) t.bytes t.entries → Loads whole text (i + 1) t'
+    loads_next next = ap (λ u. goes_on u (drop (i + 1) text)) next ∙ sym (one_byte t.loading text i t.bytes t.entries more) ∙ inv
 
-    pub loads_feed : is_trouble t.loading.trouble ≡ false → get_or text i 0 ≡ 10 → (numeral : Numeral) → numeral ≡ ended_of t.loading.line
-        → t' ≡ said_of t.loading numeral t.bytes t.entries → length t'.bytes ≡ length t.bytes
-        → length t'.entries ≡ length t.entries → Loads ld₀ text bytes₀ entries₀ (i + 1) t'
-    loads_feed untroubled feed numeral line said =
+    pub loads_feed : get_or text i 0 ≡ 10 → (numeral : Result ℕ NumeralError) → numeral ≡ ended_of t.loading.line
+        → t' ≡ said_of t.loading numeral t.bytes t.entries → Loads whole text (i + 1) t'
+    loads_feed feed numeral line said =
         loads_next
         (said
-        ∙ same_said t.loading t.bytes t.entries line
-        ∙ sym (next_feed t.loading t.bytes t.entries (get_or text i 0) untroubled feed))
+        ∙ ap (λ n. said_of t.loading n t.bytes t.entries) line
+        ∙ sym (next_feed t.loading t.bytes t.entries (get_or text i 0) going feed))
 
-    pub loads_other : is_trouble t.loading.trouble ≡ false → (get_or text i 0 ≡ 10 → ⊥)
-        → t' ≡ taken (with_line t.loading (byte_of t.loading.line (get_or text i 0))) t.bytes t.entries
-        → Loads ld₀ text bytes₀ entries₀ (i + 1) t'
-    loads_other untroubled other now =
-        loads_next (now ∙ sym (next_other t.loading t.bytes t.entries (get_or text i 0) untroubled (ne_eqb _ 10 other)))
-        (ap (λ u. length u.bytes) now)
-        (ap (λ u. length u.entries) now)
-
-  -- at a text's end, or where something stopped it, this is what the whole leads to
-  pub loads_ends : (i : ℕ) (t : Taken) → Loads ld₀ text bytes₀ entries₀ i t → length text ≤ i → t ≡ bytes_of ld₀ text bytes₀ entries₀
-  unfolding bytes_of
-  loads_ends i t inv done = ap (goes_on t) (sym (drop_of_length-le text done)) ∙ inv.rest
-
-  pub loads_stops : (i : ℕ) (t : Taken) → Loads ld₀ text bytes₀ entries₀ i t → is_trouble t.loading.trouble ≡ true
-      → t ≡ bytes_of ld₀ text bytes₀ entries₀
-  loads_stops i t inv troubled = sym (trouble_stays t.loading (drop i text) t.bytes t.entries troubled) ∙ inv.rest
+    pub loads_other : (get_or text i 0 ≡ 10 → ⊥)
+        → t' ≡ taken (with_line t.loading (byte_of t.loading.line (get_or text i 0))) t.bytes t.entries → Loads whole text (i + 1) t'
+    loads_other other now =
+        loads_next (now ∙ sym (next_other t.loading t.bytes t.entries (get_or text i 0) going (ne_eqb _ 10 other)))
 
 -- ---- the end of a text
 
@@ -176,11 +132,11 @@ pub past_line : {A : Type 0} (a b rest : A) (troubled nothing none : Bool) → t
 past_line a b rest troubled nothing none going something = simp (going, something)
 
 module _ (ld : Loading) where
-  pub end_troubled : is_trouble ld.trouble ≡ true → loaded_by ld ≡ end_of ld
+  pub end_troubled : is_some ld.trouble ≡ true → loaded_by ld ≡ end_of ld
   unfolding end_of
   end_troubled troubled = sym (simp troubled)
 
-  module _ (untroubled : is_trouble ld.trouble ≡ false) where
+  module _ (untroubled : is_some ld.trouble ≡ false) where
     pub end_without_line : nothing_read ld.line ≡ true → ld.lines ≡ 0 → loaded_by (stopped_by NoLine ld) ≡ end_of ld
     unfolding end_of
     end_without_line nothing none = sym (simp (untroubled, nothing, eq-eqb ld.lines 0 none))
@@ -191,14 +147,15 @@ module _ (ld : Loading) where
 
     module _ (something : nothing_read ld.line ≡ false) where
       abbrev behind : Bool → Loaded
-      behind wrong = cond wrong (loaded_by (stopped_by (NotADigit ld.line.digits ld.line.other) ld)) (loaded_by (stopped_by Cut ld))
+      behind wrong = cond wrong (loaded_by (stopped_by (NotANumber (NotADigit ld.line.digits (unwrap_or ld.line.wrong 0))) ld)) (loaded_by (stopped_by Cut ld))
 
-      in_a_line : behind ld.line.wrong ≡ end_of ld
+      in_a_line : behind (is_some ld.line.wrong) ≡ end_of ld
       unfolding end_of
-      in_a_line = sym (past_line _ _ (behind ld.line.wrong) _ _ (eqb ld.lines 0) untroubled something)
+      in_a_line = sym (past_line _ _ (behind (is_some ld.line.wrong)) _ _ (eqb ld.lines 0) untroubled something)
 
-      pub end_in_wrong_line : ld.line.wrong ≡ true → loaded_by (stopped_by (NotADigit ld.line.digits ld.line.other) ld) ≡ end_of ld
-      end_in_wrong_line wrong = ap behind (sym wrong) ∙ in_a_line
+      pub end_in_wrong_line : (b : ℕ) → ld.line.wrong ≡ Some b → loaded_by (stopped_by (NotANumber (NotADigit ld.line.digits b)) ld) ≡ end_of ld
+      end_in_wrong_line b wrong =
+          ap (λ w. loaded_by (stopped_by (NotANumber (NotADigit ld.line.digits (unwrap_or w 0))) ld)) (sym wrong) ∙ ap behind (sym (ap is_some wrong)) ∙ in_a_line
 
-      pub end_in_line : ld.line.wrong ≡ false → loaded_by (stopped_by Cut ld) ≡ end_of ld
+      pub end_in_line : is_some ld.line.wrong ≡ false → loaded_by (stopped_by Cut ld) ≡ end_of ld
       end_in_line right = ap behind (sym right) ∙ in_a_line

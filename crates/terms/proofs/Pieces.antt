@@ -1,12 +1,10 @@
 -- However a text is cut, taking its pieces and ending is what the whole text leads to: pieces are taken as the joined text is, byte by byte;
 -- a line that the bytes have come to is what its state says at its end; and so line by line.
-use Rattle.std.specs.Prelude.{Ok, Err, Result}
-use Rattle.std.proofs.Common.{◌≡◌, ℕ, ◌+◌, ◌%◌, ◌^◌, ◌<◌, ◌≤◌, Bool, true, false, cond, not, ◌&&◌, eqb, List, [], ◌∷◌, ◌++◌, length, sym, refl, ap, ◌∙◌, ap₂, append_assoc, append-nil, mod-eq_of_lt, arith, length-append, ne_eqb}
+use Rattle.std.proofs.Common.{◌≡◌, ℕ, ◌+◌, ◌%◌, ◌^◌, ◌<◌, ◌≤◌, Bool, true, false, cond, not, ◌&&◌, eqb, Option, Some, None, is_some, unwrap_or, ok_or, Result, Ok, Err, List, [], ◌∷◌, ◌++◌, length, sym, refl, ap, ◌∙◌, ap₂, append_assoc, append-nil, mod-eq_of_lt, arith, length-append, ne_eqb}
 use Rattle.refusal.specs.declared.Refusal.{Refusal}
-use Rattle.refusal.specs.Done.{done}
 use Rattle.blocked_bitpacker.specs.Calls.{new_of}
-use Rattle.decimal.specs.declared.Numeral.{Numeral}
-use Rattle.decimal.specs.declared.Numeral.TheVariants.{Number, Empty as EmptyLine, NotADigit as OtherByte, TooLarge as LargeNumber}
+use Rattle.decimal.specs.declared.NumeralError.{NumeralError}
+use Rattle.decimal.specs.declared.NumeralError.TheVariants.{Empty, NotADigit, TooLarge}
 use Rattle.decimal.specs.declared.line.Line.{Line}
 use Rattle.decimal.specs.Digits.{is_digit, digit_of}
 use Rattle.decimal.specs.Line.{new_line, wrong_line, cr_line, digit_line, byte_of, bytes_of as lineBytesOf, ended_of}
@@ -14,9 +12,9 @@ use Rattle.decimal.proofs.Bytewise.{bytes_append as line-append, an_ended_line_i
 use Rattle.promises.specs.Defined.{Held, held}
 use Rattle.promises.specs.Histories.{begun}
 use Rattle.terms.specs.declared.Trouble.{Trouble}
-use Rattle.terms.specs.declared.Trouble.TheVariants.{Nothing, Empty, NotADigit, TooLarge, Refused, Cut, NoLine}
+use Rattle.terms.specs.declared.Trouble.TheVariants.{NotANumber, Refused, Cut, NoLine}
 use Rattle.terms.specs.declared.Loading.{Loading}
-use Rattle.terms.specs.Loading.{is_trouble, trouble_of, loading_of, stopped_by, answered_by, Taken, taken, said_of, next_of, bytes_of, begin_of, Ended, ended, loaded_of, ended_with, nothing_read, end_of}
+use Rattle.terms.specs.Loading.{trouble_of, loading_of, stopped_by, answered_by, Taken, taken, said_of, next_of, bytes_of, begin_of, Ended, ended, loaded_of, ended_with, nothing_read, end_of}
 use Rattle.terms.specs.Text.{lines_of, rest_of, stop, without_end, after_answer, after_line, load_lines, on_new, load_of, joined, pieces_of, start_of, ending_of, ThePiecesMakeTheText}
 use Rattle.terms.proofs.Settled.{ends_after, ends_as_stopped}
 use Rattle.terms.proofs.Laws.{past_line}
@@ -44,15 +42,15 @@ pieces_joined (piece ∷ pieces) t =
 
 -- A loading that goes on, with the areas.
 abbrev going : Held → ℕ → Line → Taken
-going h lines line = taken (loading_of h.store lines line Nothing) h.bytes h.entries
+going h lines line = taken (loading_of h.store lines line None) h.bytes h.entries
 
-abbrev said_by : Taken → Numeral → Taken
+abbrev said_by : Taken → Result ℕ NumeralError → Taken
 said_by t q = said_of t.loading q t.bytes t.entries
 
 -- Of anything that ends it: where that leaves what was stopped as it is, and goes on from a new line as `next` does, it does so from a line's
 -- end as `after_line` does.
 module _ (h : Held) (lines : ℕ) (line : Line) (short : lines + 1 < 2 ^ 64) (finish : Taken → Ended) (next : ℕ → Held → Ended)
-    (stopped : (t : Taken) → is_trouble t.loading.trouble ≡ true → finish t ≡ ended_with t)
+    (stopped : (t : Taken) → is_some t.loading.trouble ≡ true → finish t ≡ ended_with t)
     (goes_on : (k : Held) → finish (going k (lines + 1) new_line) ≡ next (lines + 1) k) where
   abbrev here : Loading
   here = (going h lines line).loading
@@ -66,26 +64,21 @@ module _ (h : Held) (lines : ℕ) (line : Line) (short : lines + 1 < 2 ^ 64) (fi
   answered v (Err why) is =
       let kept = refused_keeps h v why is in
       stopped (taken (stopped_by (Refused why) here) (addLineIn h v).bytes (addLineIn h v).entries) refl
-      ∙ ap₂ (λ bytes entries. ended (loaded_of h.store lines (Refused why)) bytes entries) kept.0 kept.1
+      ∙ ap₂ (λ bytes entries. ended (loaded_of h.store lines (Some (Refused why))) bytes entries) kept.0 kept.1
 
-  stops : (trouble : Trouble) → is_trouble trouble ≡ true → finish (taken (stopped_by trouble here) h.bytes h.entries) ≡ stop trouble lines h
-  stops trouble is = stopped (taken (stopped_by trouble here) h.bytes h.entries) is
-
-  said : (q : Numeral) → finish (said_by (going h lines line) q) ≡ after_line q lines h next
+  said : (q : Result ℕ NumeralError) → finish (said_by (going h lines line) q) ≡ after_line q lines h next
   unfolding said_of
-  said (Number v) = answered v (addLineIn h v).stored.done refl
-  said EmptyLine = stops Empty refl
-  said (OtherByte place b) = stops (NotADigit place b) refl
-  said LargeNumber = stops TooLarge refl
+  said (Ok v) = answered v (addLineIn h v).stored.done refl
+  said (Err why) = stopped (taken (stopped_by (NotANumber why) here) h.bytes h.entries) refl
 
 -- ---- at the end of the text
 
 -- of a byte something is known, and of all bytes after it
 something_known : (l : Line) (b : ℕ) → l.digits + 1 < 2 ^ 64 → (nothing_read (byte_of l b) ≡ false) × ((byte_of l b).digits ≤ l.digits + 1)
 unfolding byte_of
-something_known l b few = by_tests l.wrong l.after_cr (eqb b 13) (is_digit b) refl
+something_known l b few = by_tests (is_some l.wrong) l.after_cr (eqb b 13) (is_digit b) refl
   where
-    by_tests : (wrong cr return digit : Bool) → l.wrong ≡ wrong
+    by_tests : (wrong cr return digit : Bool) → is_some l.wrong ≡ wrong
         → let m =
         cond wrong l (cond cr (wrong_line l 13) (cond return (cr_line l) (cond (not digit) (wrong_line l b) (digit_line l (digit_of b))))) in
         (nothing_read m ≡ false) × (m.digits ≤ l.digits + 1)
@@ -108,15 +101,15 @@ module _ (h : Held) (lines : ℕ) (line : Line) (read : nothing_read line ≡ fa
   unfolding end_of ended_of
   ends_without =
       ap (λ r. ended r h.bytes h.entries) (past_line _ _ _ false (nothing_read line) (eqb lines 0) refl read)
-      ∙ by_fields line.wrong (eqb line.digits 0) line.too_large
+      ∙ by_fields (is_some line.wrong) (eqb line.digits 0) line.value
     where
-      by_fields : (wrong none large : Bool)
-          → ended (cond wrong (stop (NotADigit line.digits line.other) lines h).loaded (stop Cut lines h).loaded) h.bytes h.entries
-          ≡ without_end (cond wrong (OtherByte line.digits line.other) (cond none EmptyLine (cond large LargeNumber (Number line.value)))) lines h
-      by_fields true none large = refl
-      by_fields false true large = refl
-      by_fields false false true = refl
-      by_fields false false false = refl
+      by_fields : (wrong none : Bool) (value : Option ℕ)
+          → ended (cond wrong (stop (Some (NotANumber (NotADigit line.digits (unwrap_or line.wrong 0)))) lines h).loaded (stop (Some Cut) lines h).loaded) h.bytes h.entries
+          ≡ without_end (cond wrong (Err (NotADigit line.digits (unwrap_or line.wrong 0))) (cond none (Err Empty) (ok_or value TooLarge))) lines h
+      by_fields true none value = refl
+      by_fields false true value = refl
+      by_fields false false None = refl
+      by_fields false false (Some n) = refl
 
 ends_cut : (line : List ℕ) (lines : ℕ) (h : Held) → NoFeed line → lines + length line < 2 ^ 64
     → ending_of (going h lines (lineBytesOf new_line line)) ≡ load_lines (rest_of line) (lines_of line) lines h
@@ -124,8 +117,8 @@ unfolding end_of load_lines lines_of rest_of lineBytesOf
 ends_cut [] lines h none few = by_count (eqb lines 0)
   where
     by_count : (no_line : Bool)
-        → ended (cond no_line (stop NoLine lines h).loaded (stop Nothing lines h).loaded) h.bytes h.entries
-        ≡ stop (cond no_line NoLine Nothing) lines h
+        → ended (cond no_line (stop (Some NoLine) lines h).loaded (stop None lines h).loaded) h.bytes h.entries
+        ≡ stop (cond no_line (Some NoLine) None) lines h
     by_count true = refl
     by_count false = refl
 ends_cut (b ∷ bs) lines h none few =
@@ -182,12 +175,12 @@ from_start : (text bytes entries : List ℕ) → length text < 2 ^ 64 → ends_a
 unfolding begin_of load_of lineBytesOf
 from_start text bytes entries few = by_answer (new_of bytes).stored.done
   where
-    fresh : Trouble → Taken
+    fresh : Option Trouble → Taken
     fresh trouble = taken (loading_of (new_of bytes).stored.store 0 new_line trouble) (new_of bytes).bytes entries
 
     by_answer : (done : Result (Unit {0}) Refusal) → ends_after text (fresh (trouble_of done)) ≡ on_new done text (begun bytes entries)
     by_answer (Ok _) = comes_to text [] 0 (begun bytes entries) tt (omega arith)
-    by_answer (Err why) = ends_as_stopped (fresh (Refused why)) text refl
+    by_answer (Err why) = ends_as_stopped (fresh (Some (Refused why))) text refl
 
 pub the_pieces_make_the_text : ThePiecesMakeTheText
 the_pieces_make_the_text pieces bytes entries few =

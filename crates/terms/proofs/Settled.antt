@@ -1,14 +1,15 @@
 -- Once a loading is settled, what follows may as well not be read: a loading that was stopped stays as it is, and of a line in which something
 -- is wrong both its end and the end of the text say the same.
-use Rattle.std.proofs.Common.{◌≡◌, ℕ, Bool, true, false, ◌||◌, eqb, List, [], ◌∷◌, sym, refl, ap, ◌∙◌}
+use Rattle.std.proofs.Common.{◌≡◌, ℕ, Bool, true, false, ◌||◌, eqb, is_some, unwrap_or, List, [], ◌∷◌, sym, refl, ap, ◌∙◌}
 use mathlib.Core.Bool.{false≢true}
-use Rattle.decimal.specs.declared.Numeral.TheVariants.{NotADigit as OtherByte}
-use Rattle.decimal.specs.declared.line.Line.{Line}
-use Rattle.decimal.specs.Line.{byte_of, ended_of}
-use Rattle.terms.specs.declared.Trouble.TheVariants.{NotADigit}
+use Rattle.decimal.specs.declared.NumeralError.TheVariants.{NotADigit}
+use Rattle.decimal.specs.Line.{byte_of}
+use Rattle.decimal.proofs.Laws.{ended_wrong}
+use Rattle.terms.specs.declared.Trouble.TheVariants.{NotANumber}
 use Rattle.terms.specs.declared.Loading.{Loading}
-use Rattle.terms.specs.Loading.{is_trouble, stopped_by, Taken, taken, said_of, next_of, bytes_of, Ended, ended_with, end_of}
+use Rattle.terms.specs.Loading.{stopped_by, Taken, taken, said_of, next_of, bytes_of, Ended, ended_with, end_of}
 use Rattle.terms.specs.Text.{ending_of, NothingChangesWhatIsSettled}
+use Rattle.terms.proofs.Laws.{trouble_stays}
 
 -- What more text leads to.
 abbrev pub ends_after : List ℕ → Taken → Ended
@@ -16,36 +17,19 @@ ends_after text t = ending_of (bytes_of t.loading text t.bytes t.entries)
 
 -- ---- after what stopped it
 
-looks_at_nothing : (ld : Loading) (b : ℕ) (bytes entries : List ℕ) → is_trouble ld.trouble ≡ true
-    → next_of ld b bytes entries ≡ taken ld bytes entries
-unfolding next_of
-looks_at_nothing ld b bytes entries stopped = simp stopped
-
-pub stays_stopped : (ld : Loading) (text bytes entries : List ℕ) → is_trouble ld.trouble ≡ true
-    → bytes_of ld text bytes entries ≡ taken ld bytes entries
-unfolding bytes_of
-stays_stopped ld [] bytes entries stopped = refl
-stays_stopped ld (b ∷ bs) bytes entries stopped =
-    ap (λ t. bytes_of t.loading bs t.bytes t.entries) (looks_at_nothing ld b bytes entries stopped)
-    ∙ stays_stopped ld bs bytes entries stopped
-
-pub ends_stopped : (t : Taken) → is_trouble t.loading.trouble ≡ true → ending_of t ≡ ended_with t
+pub ends_stopped : (t : Taken) → is_some t.loading.trouble ≡ true → ending_of t ≡ ended_with t
 unfolding end_of
 ends_stopped t stopped = simp stopped
 
 -- whatever follows
-pub ends_as_stopped : (t : Taken) (text : List ℕ) → is_trouble t.loading.trouble ≡ true → ends_after text t ≡ ended_with t
-ends_as_stopped t text stopped = ap ending_of (stays_stopped t.loading text t.bytes t.entries stopped) ∙ ends_stopped t stopped
+pub ends_as_stopped : (t : Taken) (text : List ℕ) → is_some t.loading.trouble ≡ true → ends_after text t ≡ ended_with t
+ends_as_stopped t text stopped = ap ending_of (trouble_stays t.loading text t.bytes t.entries stopped) ∙ ends_stopped t stopped
 
 -- ---- in a line in which something is wrong
 
-wrong_ended : (l : Line) → l.wrong ≡ true → ended_of l ≡ OtherByte l.digits l.other
-unfolding ended_of
-wrong_ended l wrong = simp wrong
-
-module _ (ld : Loading) (bytes entries : List ℕ) (going : is_trouble ld.trouble ≡ false) (wrong : ld.line.wrong ≡ true) where
+module _ (ld : Loading) (bytes entries : List ℕ) (going : is_some ld.trouble ≡ false) (wrong : is_some ld.line.wrong ≡ true) where
   abbrev stopped-here : Taken
-  stopped-here = taken (stopped_by (NotADigit ld.line.digits ld.line.other) ld) bytes entries
+  stopped-here = taken (stopped_by (NotANumber (NotADigit ld.line.digits (unwrap_or ld.line.wrong 0))) ld) bytes entries
 
   wrong_ends : ending_of (taken ld bytes entries) ≡ ended_with stopped-here
   unfolding end_of
@@ -53,7 +37,7 @@ module _ (ld : Loading) (bytes entries : List ℕ) (going : is_trouble ld.troubl
 
   wrong_feed : (b : ℕ) → eqb b 10 ≡ true → next_of ld b bytes entries ≡ stopped-here
   unfolding next_of said_of
-  wrong_feed b feed = simp (going, feed, wrong_ended ld.line wrong)
+  wrong_feed b feed = simp (going, feed, ended_wrong ld.line wrong)
 
   wrong_byte : (b : ℕ) → eqb b 10 ≡ false → next_of ld b bytes entries ≡ taken ld bytes entries
   unfolding next_of byte_of
@@ -70,9 +54,9 @@ module _ (ld : Loading) (bytes entries : List ℕ) (going : is_trouble ld.troubl
       by_byte false other rest = ap (ends_after bs) (wrong_byte b other) ∙ rest
 
 pub nothing_changes_what_is_settled : NothingChangesWhatIsSettled
-nothing_changes_what_is_settled t text settled = by_trouble (is_trouble t.loading.trouble) t.loading.line.wrong refl refl settled
+nothing_changes_what_is_settled t text settled = by_trouble (is_some t.loading.trouble) (is_some t.loading.line.wrong) refl refl settled
   where
-    by_trouble : (trouble wrong : Bool) → is_trouble t.loading.trouble ≡ trouble → t.loading.line.wrong ≡ wrong → (wrong || trouble) ≡ true
+    by_trouble : (trouble wrong : Bool) → is_some t.loading.trouble ≡ trouble → is_some t.loading.line.wrong ≡ wrong → (wrong || trouble) ≡ true
         → ends_after text t ≡ ending_of t
     by_trouble true wrong stopped is settled = ends_as_stopped t text stopped ∙ sym (ends_stopped t stopped)
     by_trouble false true going wrong settled = wrong_stays t.loading t.bytes t.entries going wrong text

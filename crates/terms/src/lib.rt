@@ -91,6 +91,7 @@ fn add(store: BlockedBitpacker, value: u64, bytes: &mut [u8], entries: &mut [u64
 
 impl Loading {
     // Nothing is read yet, and the store is new. A byte area that is too short for one stops it.
+    #[tactic(auto, unfolding(crate::specs::Loading::begin_of))]
     pub fn new(bytes: &mut [u8]) -> Loading
         ensures { begun result bytes.new ≡ begin_of bytes.old }
     {
@@ -128,6 +129,7 @@ impl Loading {
     }
 
     // The line ends, and says this.
+    #[tactic(auto, unfolding(crate::specs::Loading::said_of))]
     fn said(
         self,
         numeral: Result<u64, NumeralError>,

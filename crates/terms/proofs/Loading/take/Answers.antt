@@ -1,40 +1,36 @@
 -- In the loop nothing has stopped it: a line feed ends a line and what it says goes on, any other byte belongs to the line. After what stops it,
 -- the rest changes nothing.
-use Rattle.std.proofs.Common.{◌≡◌, false, length, sym, refl, ap, ◌∙◌}
-use Rattle.terms.specs.Loading.{is_trouble}
-use Rattle.terms.proofs.Laws.{same_parts, no_trouble, trouble_stays, loads_starts, loads_feed, loads_other, loads_ends, loads_stops}
+use Rattle.std.proofs.Common.{◌+◌, is_some, sym, ap, ◌∙◌}
+use Rattle.terms.proofs.Laws.{same_taken, with_line, trouble_stays, loads_feed, loads_other, loads_ends, loads_stops}
 use Rattle.terms.proofs.Loading.take.Goals as goal
-use Rattle.terms.proofs.Loading.take.Goals.{then-text-i-eq10+else-is_trouble-2, else-text-i-eq10}
+use Rattle.terms.proofs.Loading.take.Goals.{then-byte-eq10+else-is_some-2, else-byte-eq10}
 
-pub returns-then-is_trouble : goal.returns-then-is_trouble
-returns-then-is_trouble c = sym (trouble_stays _ _ _ _ (sym c.is_trouble.ensures ∙ c.if-is_trouble.true))
+pub returns-then-is_some : goal.returns-then-is_some
+returns-then-is_some c = sym (trouble_stays _ _ _ _ (sym c.is_some.ensures ∙ c.if-is_some.true))
 
-pub loop-i-init : goal.loop-i-init
-loop-i-init c = loads_starts _ _ _ _
+pub returns-then-is_some-2 : goal.returns-then-is_some-2
+returns-then-is_some-2 c =
+    let inv = c.loop-byte.invariant in
+    loads_stops _ c.args.text.now (c.loop-byte.byte-index + 1) _
+    (loads_feed _ _ _ _ inv.0 c.loop-byte-test.true inv.1 _ c.if-byte-eq10.true _ c.ended.ensures c.said-loading.ensures)
+    (sym c.is_some-then-byte-eq10.ensures ∙ c.if-is_some-2.true)
 
-pub returns-then-is_trouble-2 : goal.returns-then-is_trouble-2
-returns-then-is_trouble-2 c =
-    let untroubled : is_trouble c.args.self.trouble ≡ false = sym c.is_trouble.ensures ∙ c.if-is_trouble.false in
-    loads_stops _ _ _ _ _ _
-    (loads_feed _ _ _ _ _ _ _ c.loop-i.invariant c.loop-i-test.true untroubled c.if-text-i-eq10.true _ c.ended.ensures
-    c.said-next.ensures c.said-next.auto.bytes c.said-next.auto.entries)
-    (sym c.is_trouble-then-text-i-eq10.ensures ∙ c.if-is_trouble-2.true)
-
-pub loop-i-preserved : goal.loop-i-preserved
-loop-i-preserved c =
-    let untroubled : is_trouble c.args.self.trouble ≡ false = sym c.is_trouble.ensures ∙ c.if-is_trouble.false in
-    elim c.if-text-i-eq10.branch [
-      | then-text-i-eq10+else-is_trouble-2 w ↦
-          let unstopped = sym w.is_trouble-then-text-i-eq10.ensures ∙ w.if-is_trouble-2.false in
-          loads_feed _ _ _ _ _ _ _ c.loop-i.invariant c.loop-i-test.true untroubled w.if-text-i-eq10.true _ w.ended.ensures
-          (same_parts w.store-is w.lines-is w.line-is (no_trouble _ untroubled ∙ sym (no_trouble _ unstopped)) w.bytes-is w.entries-is
-          ∙ w.said-next.ensures)
-          (ap length w.bytes-is ∙ w.said-next.auto.bytes)
-          (ap length w.entries-is ∙ w.said-next.auto.entries)
-      | else-text-i-eq10 w ↦
-          loads_other _ _ _ _ _ _ _ c.loop-i.invariant c.loop-i-test.true untroubled w.if-text-i-eq10.false
-          (same_parts w.store-is w.lines-is (w.line-is ∙ w.byte-line.ensures) refl w.bytes-is w.entries-is)
+pub loop-byte-preserved : goal.loop-byte-preserved
+loop-byte-preserved c =
+    let inv = c.loop-byte.invariant in
+    let more = c.loop-byte-test.true in
+    elim c.if-byte-eq10.branch [
+      | then-byte-eq10+else-is_some-2 w ↦
+          let unstopped = sym w.is_some-then-byte-eq10.ensures ∙ w.if-is_some-2.false in (
+            loads_feed _ _ _ _ inv.0 more inv.1 _ w.if-byte-eq10.true _ w.ended.ensures
+                (same_taken w.loading-is w.bytes-is w.entries-is ∙ w.said-loading.ensures),
+            ap (λ ld. is_some ld.trouble) w.loading-is ∙ unstopped,
+          )
+      | else-byte-eq10 w ↦ (
+        loads_other _ _ _ _ inv.0 more inv.1 _ w.if-byte-eq10.false (same_taken (w.loading-is ∙ ap (with_line c.loop-byte.loading) w.byte-loading.ensures) w.bytes-is w.entries-is),
+        ap (λ ld. is_some ld.trouble) w.loading-is ∙ inv.1,
+      )
     ]
 
 pub returns : goal.returns
-returns c = loads_ends _ _ _ _ _ _ c.loop-i.invariant c.loop-i-test.false
+returns c = loads_ends _ _ _ _ c.loop-byte.invariant.0 c.loop-byte-test.false
