@@ -10,8 +10,8 @@ use lib.Dec.{lit<}
 use lib.Arith.{mod-mul}
 use lib.Pow as Pow
 use lib.ListN.{length, get_or, take, drop}
-use lib.Seq.{take-nil, take_at}
-use Rattle.std.specs.Int.{to_le_bytes, w64}
+use lib.Seq.{take-nil, take_at, take_all}
+use Rattle.std.specs.Int.{to_le_bytes, from_le_bytes, w64}
 use Rattle.bit_rule.specs.Bytes.{AreBytes, number, bytes_of, bytes_for}
 
 -- a byte is eight bits
@@ -172,6 +172,12 @@ window_word a xs =
     (link 3 (suc (suc (suc (suc a)))) xs
     (link 2 (suc (suc (suc (suc (suc a))))) xs
     (link 1 (suc (suc (suc (suc (suc (suc a)))))) xs (last (suc (suc (suc (suc (suc (suc (suc a))))))) xs))))))))
+
+-- the number that std makes of a word's eight bytes is the one that they stand for
+pub word_number : (word : List ℕ) → length word ≡ 8 → from_le_bytes w64 word ≡ number word
+word_number word eight =
+    let whole : take 8 word ≡ word = take_all 8 word (omega arith) in
+    omega (arith, window_word 0 word, ap number whole)
 
 -- a column of fewer than 2 ^ 60 values takes half of the address space at most
 pub column_half : (n w : ℕ) → n < 2 ^ 60 → w ≤ 64 → bytes_for (n * w) ≤ 2 ^ 63
