@@ -1,17 +1,17 @@
 -- The search in batches: what the filter leaves of a batch are its matching ids, and the ids of one stretch after the other are those of both.
 use Rattle.std.specs.Prelude.{Ok}
 use mathlib.Core.Path.{◌≡◌, sym, ap, ap₂, ◌∙◌, subst}
-use mathlib.Core.List.{List, [], ◌++◌}
-use Prim.Native.Nat.{ℕ, ◌+◌, ◌-◌, ◌*◌, ◌/◌, ◌%◌, ◌^◌, ◌≤◌, ◌<◌, min}
+use mathlib.Core.List.{List, [], ◌++◌, append-nil}
+use Prim.Native.Nat.{ℕ, ◌+◌, ◌-◌, ◌*◌, ◌/◌, ◌%◌, ◌^◌, ◌≤◌, ◌<◌, min, zero-le}
 use native.Mathlib.Nat.{zero-add, add-zero, add-mul, sub_self, le_trans, lt_of_lt_of_le, mul-le-mul_right}
 use native.Mathlib.Omega.{arith}
 use lib.Pow.{pow_mono}
 use lib.ListN.{length, get_or, take, drop, replicate, length-append, length-drop}
-use lib.Seq.{take_all, take-append_seam, length-take-le}
+use lib.Seq.{take_all, take-append_seam, length-take-le, drop-drop, drop-length}
 use Rattle.bit_rule.specs.Bytes.{AreBytes}
 use Rattle.bit_rule.specs.Place.{values_from}
 use Rattle.bit_rule.specs.Search.{matching_ids, at_start, pasted_at}
-use Rattle.bit_rule.proofs.Place.{length-values_from, values_from-add, values_from-lt, values_from-drop}
+use Rattle.bit_rule.proofs.Place.{drop_are_bytes, length-values_from, values_from-add, values_from-lt, values_from-drop}
 use Rattle.bit_rule.proofs.Search.{matching_le, matching_append, none_above, hi_cut, paste_first, paste_none, paste_paste}
 use Rattle.bitunpacker.proofs.Laws.{eights}
 use Rattle.filter_vec.specs.Filter.{filtered, filter_of}
@@ -67,14 +67,33 @@ part_values w k n bs bytes even =
     ∙ ap (λ j. values_from w j n bs) (add-zero k)
 
 -- and they lie in it
-pub part_inside : (w k n : ℕ) (bs : List ℕ) → k % 8 ≡ 0 → (k + n) * w ≤ 8 * length bs → n * w ≤ 8 * length (rest_from (k / 8 * w) bs)
+part_inside : (w k n : ℕ) (bs : List ℕ) → k % 8 ≡ 0 → (k + n) * w ≤ 8 * length bs → n * w ≤ 8 * length (rest_from (k / 8 * w) bs)
 part_inside w k n bs even whole =
     let a = k / 8 * w in
     let left : length (rest_from a bs) ≡ length bs - a = ap length (rest_from_is a bs) ∙ length-drop a bs in
     omega (arith, on_a_byte k w even, add-mul k n w)
 
-pub part_starts : (w k n : ℕ) (bs : List ℕ) → k % 8 ≡ 0 → (k + n) * w ≤ 8 * length bs → k / 8 * w ≤ length bs
+part_starts : (w k n : ℕ) (bs : List ℕ) → k % 8 ≡ 0 → (k + n) * w ≤ 8 * length bs → k / 8 * w ≤ length bs
 part_starts w k n bs even whole = omega (arith, on_a_byte k w even, add-mul k n w)
+
+-- the part of a column's data that starts where value k does: n values more lie in it
+pub record PartOf (u : BitUnpacker) (k n : ℕ) (bs : List ℕ) : Type 0 where
+  pub starts : k / 8 * u.num_bits ≤ length bs
+  pub in_data : InData u n (rest_from (k / 8 * u.num_bits) bs)
+
+pub part_of : {u : BitUnpacker} {count : ℕ} {bs : List ℕ} (k n : ℕ) → InData u count bs → k % 8 ≡ 0 → k + n ≤ count → PartOf u k n bs
+part_of {u} {count} {bs} k n all even fewer =
+    let w = u.num_bits in
+    let whole : (k + n) * w ≤ 8 * length bs = le_trans (mul-le-mul_right w fewer) all.inside in
+    record {
+      starts = part_starts w k n bs even whole;
+      in_data = record {
+        sound = all.sound;
+        as_bytes = subst AreBytes (sym (rest_from_is (k / 8 * w) bs)) (drop_are_bytes (k / 8 * w) bs all.as_bytes);
+        few = omega (arith, all.few);
+        inside = part_inside w k n bs even whole;
+      };
+    }
 
 -- ---- one stretch after the other
 
@@ -137,38 +156,65 @@ pub ids_le : (w lo hi from to : ℕ) (bs : List ℕ) → length (ids_of w lo hi 
 unfolding ids_of
 ids_le w lo hi from to bs = omega (arith, matching_le lo hi from (values_from w from (to - from) bs), length-values_from w from (to - from) bs)
 
--- fewer values lie in the data too
-pub in_data_less : {u : BitUnpacker} {n : ℕ} {bs : List ℕ} (m : ℕ) → m ≤ n → InData u n bs → InData u m bs
-in_data_less {u} m fewer all =
-    record { sound = all.sound; few = omega (arith, all.few); inside = le_trans (mul-le-mul_right u.num_bits fewer) all.inside }
+-- ---- ids kept behind those found already
 
--- ---- on the highway
+-- the positions, where a part of them from a place on was written
+abbrev with_rest : ℕ → List ℕ → List ℕ → List ℕ
+with_rest found positions rest = take found positions ++ (rest ++ drop (length positions - found) (drop found positions))
 
--- Where a search stands between two batches, having left the entrance ramp at `on` with so many ids found.
-pub record OnHighway (w lo hi end on found₀ : ℕ) (bs positions₀ : List ℕ) (at found : ℕ) (positions : List ℕ) : Type 0 where
-  pub onwards : on ≤ at
-  pub within : at ≤ end
-  pub on_byte : 32 ≤ end - at → at % 8 ≡ 0
-  pub kept : Kept found₀ (ids_of w lo hi on at bs) positions₀ found positions
-  pub same : length positions ≡ length positions₀
+-- nothing lies behind that part
+with_rest_is : (found : ℕ) (positions rest : List ℕ) → found ≤ length positions → with_rest found positions rest ≡ take found positions ++ rest
+with_rest_is found positions rest inside =
+    let whole : found + (length positions - found) ≡ length positions = omega arith in
+    let none : drop (length positions - found) (drop found positions) ≡ [] =
+    drop-drop (length positions - found) found positions ∙ ap (λ k. drop k positions) whole ∙ drop-length positions in
+    ap (λ l. take found positions ++ (rest ++ l)) none ∙ ap (λ l. take found positions ++ l) (append-nil rest)
 
-pub few_on_highway : {w lo hi end on found₀ : ℕ} {bs positions₀ : List ℕ} {at found : ℕ} {positions : List ℕ}
-    → OnHighway w lo hi end on found₀ bs positions₀ at found positions → found ≤ found₀ + (at - on)
-few_on_highway {w} {lo} {hi} {on} {bs} {at} here = omega (arith, here.kept.count, ids_le w lo hi on at bs)
+-- ids kept at the start of that part
+pub kept_behind : (found : ℕ) {ids : List ℕ} (positions : List ℕ) {r : ℕ} {rest : List ℕ} → Kept 0 ids (rest_from found positions) r rest → found ≤ length positions
+    → Kept found ids positions (found + r) (with_rest found positions rest)
+kept_behind found {ids} positions {r} {rest} kept inside =
+    let part : rest ≡ ids ++ drop (found + length ids) positions =
+    kept.pasted
+    ∙ paste_first ids (rest_from found positions)
+    ∙ ap (λ l. ids ++ l) (ap (drop (length ids)) (rest_from_is found positions) ∙ drop-drop (length ids) found positions) in
+    record { count = omega (arith, kept.count); pasted = with_rest_is found positions rest inside ∙ ap (λ l. take found positions ++ l) part }
 
--- a batch more
-pub highway_goes_on : {w lo hi end on found₀ : ℕ} {bs positions₀ : List ℕ} {at found : ℕ} {positions : List ℕ} {r : ℕ} {after : List ℕ}
-    → OnHighway w lo hi end on found₀ bs positions₀ at found positions → 32 ≤ end - at → found₀ ≤ length positions₀
-    → Kept found (ids_of w lo hi at (at + 32) bs) positions r after → length after ≡ length positions
-    → OnHighway w lo hi end on found₀ bs positions₀ (at + 32) r after
-highway_goes_on {w} {lo} {hi} {end} {on} {bs} {at} here more room batch same =
-    record {
-      onwards = omega (arith, here.onwards);
-      within = omega arith;
-      on_byte = λ further. omega (arith, here.on_byte more);
-      kept = kept_same (ids_add w lo hi on at (at + 32) bs here.onwards (omega arith)) (kept_more room here.kept batch);
-      same = same ∙ here.same;
-    }
+-- Where a search stands at an index: the ids of the matching values before that one are kept.
+pub record StandsBefore (w lo hi start : ℕ) (bs before : List ℕ) (at found : ℕ) (positions : List ℕ) : Type 0 where
+  pub onwards : start ≤ at
+  pub kept : Kept 0 (ids_of w lo hi start at bs) before found positions
+  pub same : length positions ≡ length before
+
+module _ {w lo hi start : ℕ} {bs before : List ℕ} {at found : ℕ} {positions : List ℕ} (here : StandsBefore w lo hi start bs before at found positions) where
+  -- it finds no more ids than it passes
+  pub few_found : found ≤ at - start
+  few_found = omega (arith, here.kept.count, ids_le w lo hi start at bs)
+
+  -- so there is a place for each id that is left
+  pub room_left : (to : ℕ) → at ≤ to → to - start ≤ length before → to - at ≤ length (rest_from found positions)
+  room_left to ordered room =
+      let left : length (rest_from found positions) ≡ length positions - found = ap length (rest_from_is found positions) ∙ length-drop found positions in
+      omega (arith, left, few_found, here.onwards, here.same)
+
+  -- a stretch more
+  pub stands_further : (to : ℕ) {r : ℕ} {rest : List ℕ} → at ≤ to → at - start ≤ length before
+      → Kept 0 (ids_of w lo hi at to bs) (rest_from found positions) r rest → length rest ≡ length (rest_from found positions)
+      → StandsBefore w lo hi start bs before to (found + r) (with_rest found positions rest)
+  stands_further to {r} {rest} ordered room stretch same =
+      let inside : found ≤ length positions = omega (arith, few_found, here.same) in
+      record {
+        onwards = omega (arith, here.onwards);
+        kept = kept_same (ids_add w lo hi start at to bs here.onwards ordered) (kept_more zero-le here.kept (kept_behind found positions stretch inside));
+        same = ap length (with_rest_is found positions rest inside)
+            ∙ length-append (take found positions) rest
+            ∙ omega (arith, length-take-le found positions inside, same, ap length (rest_from_is found positions), length-drop found positions, here.same);
+      }
+
+  -- the same place by another name
+  pub stands_at : (to : ℕ) {r : ℕ} {after : List ℕ} → at ≡ to → r ≡ found → after ≡ positions → StandsBefore w lo hi start bs before to r after
+  stands_at to {r} {after} there count list =
+      rw (← there, count, list) here
 
 -- ---- the answer
 

@@ -4,16 +4,20 @@
 #![tactic(auto)]
 
 mod bits;
+mod column;
 mod search;
 
-ghost use Rattle.std.specs.Prelude.{◌≡◌, true, ◌+◌, ◌*◌, ◌%◌, ◌^◌, ◌≤◌, ◌<◌, length};
+ghost use Rattle.std.specs.Prelude.{◌≡◌, true, ◌+◌, ◌*◌, ◌%◌, ◌^◌, ◌≤◌, ◌<◌, length, IfOk};
 ghost use Rattle.bit_rule.specs.Width.{legal_width};
 ghost use Rattle.bit_rule.specs.Place.{values_from};
-ghost use Rattle.bitunpacker.specs.Unpacker.{mask_of, bad_width, damaged_mask, Sound, new_of, get_of, range, get_range_of, search, search_of};
+ghost use Rattle.bitunpacker.specs.Parts.{checked};
+ghost use Rattle.bitunpacker.specs.Unpacker.{mask_of, Sound, new_of, get_of, range, get_range_of, search, search_of};
 
-use bits::{bits_at, column_bytes, mask_of, tail_at, word_at};
+use bit_rule::column_bytes;
+use bits::{mask_of, tail_at, word_at};
+use column::Column;
 use refusal::Refusal;
-use search::find;
+use search::Interval;
 
 // The width of every value of a column, and the mask that cuts a value to it.
 #[derive(Clone, Copy)]
@@ -32,11 +36,7 @@ impl BitUnpacker {
     fn is_legal(width: usize) -> bool
         ensures { result ≡ legal_width width }
     {
-        if width <= BitUnpacker::WIDEST_ANYWHERE {
-            true
-        } else {
-            width == BitUnpacker::WHOLE_WORD
-        }
+        width <= BitUnpacker::WIDEST_ANYWHERE || width == BitUnpacker::WHOLE_WORD
     }
 
     // An unpacker for a column of num_bits bits a value.
@@ -61,31 +61,28 @@ impl BitUnpacker {
         (self.num_bits % 256) as u8
     }
 
-    fn has_bad_width(self) -> bool
-        ensures { result ≡ bad_width self }
+    // Refuses an unpacker that `new` does not make, first for its width and then for its mask.
+    #[tactic(auto, using(crate::proofs::Laws::sound), unfolding(crate::specs::Parts::checked))]
+    fn checked(self) -> Result<(), Refusal>
+        ensures first { result ≡ checked self }
+        ensures sound { IfOk result (λ _. Sound self) }
     {
         let width = self.num_bits;
-        !BitUnpacker::is_legal(width)
-    }
-
-    fn has_damaged_mask(self) -> bool
-        requires { self.num_bits ≤ 64 }
-        ensures { result ≡ damaged_mask self }
-    {
-        let width = self.num_bits;
-        self.mask != mask_of(width)
+        if !BitUnpacker::is_legal(width) {
+            return Err(Refusal::BadWidth);
+        }
+        if self.mask != mask_of(width) {
+            return Err(Refusal::Damaged);
+        }
+        Ok(())
     }
 
     // The value at an index of the data.
+    #[tactic(auto, using(crate::proofs::Laws::index_fits))]
     pub fn get(self, idx: u32, data: &[u8]) -> Result<u64, Refusal>
         ensures { result ≡ get_of self idx «data».now }
     {
-        if self.has_bad_width() {
-            return Err(Refusal::BadWidth);
-        }
-        if self.has_damaged_mask() {
-            return Err(Refusal::Damaged);
-        }
+        self.checked()?;
         // One index of 32 bits: no product or sum can wrap. A value lies within the eight bytes that it starts in.
         let width = self.num_bits;
         let bit = idx as usize * width;
@@ -99,45 +96,25 @@ impl BitUnpacker {
         Ok(tail_at(data, at, bit % 8, self.mask))
     }
 
-    // Fills the output with the values from an index on, all of which lie in the data.
-    fn fill(self, start: usize, data: &[u8], output: &mut [u64])
-        requires sound { Sound self }
-        requires output_bound { start + length output.old < 2 ^ 61 }
-        requires num_bits_bound { (start + length output.old) * self.num_bits ≤ 8 * length «data».now }
-        ensures { output.new ≡ values_from self.num_bits start (length output.old) «data».now }
-    {
-        let width = self.num_bits;
-        let lead = start % 8 * width;
-        let mut at = start / 8 * width + lead / 8;
-        let mut shift = lead % 8;
-        let mut i = 0;
-        while i < output.len() {
-            output[i] = bits_at(data, at, shift, self.mask);
-            at = at + (shift + width) / 8;
-            shift = (shift + width) % 8;
-            i += 1;
-        }
-    }
-
     // Fills the output with the values from an index on.
     pub fn get_range(self, start_idx: u32, data: &[u8], output: &mut [u64]) -> Result<(), Refusal>
         ensures { range result output.new ≡ get_range_of self start_idx «data».now output.old }
     {
-        if self.has_bad_width() {
-            return Err(Refusal::BadWidth);
-        }
-        if self.has_damaged_mask() {
-            return Err(Refusal::Damaged);
-        }
-        if output.len() == 0 {
+        self.checked()?;
+        if output.is_empty() {
             return Ok(());
         }
-        let width = self.num_bits;
         let start = start_idx as usize;
-        if data.len() < column_bytes(start + output.len(), width) {
+        let count = start + output.len();
+        if data.len() < column_bytes(count, self.num_bits) {
             return Err(Refusal::OutOfData);
         }
-        self.fill(start, data, output);
+        let column = Column {
+            unpacker: self,
+            bytes: data,
+            count,
+        };
+        column.fill(start, output);
         Ok(())
     }
 
@@ -154,22 +131,23 @@ impl BitUnpacker {
     ) -> Result<usize, Refusal>
         ensures { search result positions.new ≡ search_of self lo hi start end «data».now positions.old }
     {
-        if self.has_bad_width() {
-            return Err(Refusal::BadWidth);
-        }
-        if self.has_damaged_mask() {
-            return Err(Refusal::Damaged);
-        }
+        self.checked()?;
         if end <= start {
             return Ok(0);
         }
-        let width = self.num_bits;
-        if data.len() < column_bytes(end as usize, width) {
+        let count = end as usize;
+        if data.len() < column_bytes(count, self.num_bits) {
             return Err(Refusal::OutOfData);
         }
         if positions.len() < (end - start) as usize {
             return Err(Refusal::NoRoom);
         }
-        Ok(find(self, lo, hi, start, end, data, positions))
+        let column = Column {
+            unpacker: self,
+            bytes: data,
+            count,
+        };
+        let interval = Interval { lo, hi };
+        Ok(column.find(interval, start, end, positions))
     }
 }

@@ -1,13 +1,14 @@
 -- The refusals are the three tests in their order; the third cannot hold where eight bytes from the value's first one on are there. Past them
 -- the value is read from those eight bytes, or from what is there of them (`read_value`).
-use Rattle.std.specs.Prelude.{Ok}
-use Rattle.std.proofs.Common.{◌≡◌, ℕ, ◌+◌, ◌*◌, ◌/◌, ◌%◌, ◌^◌, ◌≤◌, true, false, leb, List, length, take, drop, bit_and, sym, ap, ◌∙◌, arith, le-leb, add-mul, one-mul}
+use Rattle.std.specs.Prelude.{Ok, Err}
+use Rattle.std.proofs.Common.{◌≡◌, ℕ, ◌+◌, ◌*◌, ◌/◌, ◌%◌, ◌^◌, ◌≤◌, true, leb, List, length, take, drop, bit_and, sym, ap, ◌∙◌, arith, le-leb, add-mul, one-mul}
+use Rattle.std.proofs.lemmas.Result.{err_from_is_err_and}
 use Rattle.bit_rule.specs.Bytes.{AreBytes, number, bytes_for}
 use Rattle.bit_rule.specs.Place.{value_at}
 use Rattle.bit_rule.proofs.Place.{legal_span}
 use Rattle.bitunpacker.specs.declared.BitUnpacker.{BitUnpacker}
-use Rattle.bitunpacker.specs.Unpacker.{bad_width, damaged_mask, Sound, get_of}
-use Rattle.bitunpacker.proofs.Laws.{sound, read_value, inside, outside}
+use Rattle.bitunpacker.specs.Unpacker.{Sound, get_of}
+use Rattle.bitunpacker.proofs.Laws.{refused, passed, read_value, inside, outside}
 use Rattle.bitunpacker.proofs.BitUnpacker.get.Goals as goal
 
 -- the byte after the last that the value lies in
@@ -26,40 +27,28 @@ value_read : (u : BitUnpacker) (i : ℕ) (bs : List ℕ) (v : ℕ) → AreBytes 
     → v ≡ bit_and (number (take 8 (drop (i * u.num_bits / 8) bs)) / 2 ^ (i * u.num_bits % 8)) u.mask → v ≡ value_at u.num_bits i bs
 value_read u i bs v bytes good is = is ∙ read_value u i (i * u.num_bits / 8) (i * u.num_bits % 8) bs bytes good (omega arith) (omega arith)
 
-pub returns-then-has_bad_width : goal.returns-then-has_bad_width
+pub returns-in_err-checked : goal.returns-in_err-checked
 unfolding get_of
-returns-then-has_bad_width c =
-    let bad : bad_width c.args.self ≡ true = sym c.has_bad_width.ensures ∙ c.if-has_bad_width.true in
-    simp bad
-
-pub returns-then-has_damaged_mask : goal.returns-then-has_damaged_mask
-unfolding get_of
-returns-then-has_damaged_mask c =
-    let width_ok : bad_width c.args.self ≡ false = sym c.has_bad_width.ensures ∙ c.if-has_bad_width.false in
-    let damaged : damaged_mask c.args.self ≡ true = sym c.has_damaged_mask.ensures ∙ c.if-has_damaged_mask.true in
-    simp (width_ok, damaged)
+returns-in_err-checked c =
+    let p = err_from_is_err_and c.from_residual.result c.from_residual.ensures.1 in
+    rw (p.1, p.2) (sym (refused c.args.self _ (λ e. Err e) _ (sym c.in_err-checked.ensures.first)))
 
 pub returns-then-at-data : goal.returns-then-at-data
 unfolding get_of
 returns-then-at-data c =
-    let width_ok : bad_width c.args.self ≡ false = sym c.has_bad_width.ensures ∙ c.if-has_bad_width.false in
-    let mask_ok : damaged_mask c.args.self ≡ false = sym c.has_damaged_mask.ensures ∙ c.if-has_damaged_mask.false in
-    let good = sound c.args.self width_ok mask_ok in
+    let good = c.in_ok-checked.ensures.sound in
     let whole = within-eight c.args.self c.args.idx c.args.data.now good c.if-at-data.true in
-    simp (width_ok, mask_ok, whole) (ap Ok (value_read c.args.self c.args.idx c.args.data.now _ (λ k. (c.type_inv.data k).fits) good c.word_at.ensures))
+    ap Ok (value_read c.args.self c.args.idx c.args.data.now _ (λ k. (c.type_inv.data k).fits) good c.word_at.ensures)
+    ∙ sym (passed c.args.self (λ e. Err e) _ (sym c.in_ok-checked.ensures.first) ∙ simp whole)
 
 pub returns-then-data-bit : goal.returns-then-data-bit
 unfolding get_of
 returns-then-data-bit c =
-    let width_ok : bad_width c.args.self ≡ false = sym c.has_bad_width.ensures ∙ c.if-has_bad_width.false in
-    let mask_ok : damaged_mask c.args.self ≡ false = sym c.has_damaged_mask.ensures ∙ c.if-has_damaged_mask.false in
-    simp (width_ok, mask_ok, outside _ _ (last_byte c.args.idx c.args.self.num_bits) c.if-data-bit.true)
+    sym (passed c.args.self (λ e. Err e) _ (sym c.in_ok-checked.ensures.first) ∙ simp (outside _ _ (last_byte c.args.idx c.args.self.num_bits) c.if-data-bit.true))
 
 pub returns : goal.returns
 unfolding get_of
 returns c =
-    let width_ok : bad_width c.args.self ≡ false = sym c.has_bad_width.ensures ∙ c.if-has_bad_width.false in
-    let mask_ok : damaged_mask c.args.self ≡ false = sym c.has_damaged_mask.ensures ∙ c.if-has_damaged_mask.false in
-    let good = sound c.args.self width_ok mask_ok in
-    simp (width_ok, mask_ok, inside _ _ (last_byte c.args.idx c.args.self.num_bits) c.if-data-bit.false)
-    (ap Ok (value_read c.args.self c.args.idx c.args.data.now _ (λ k. (c.type_inv.data k).fits) good c.tail_at.ensures))
+    let good = c.in_ok-checked.ensures.sound in
+    ap Ok (value_read c.args.self c.args.idx c.args.data.now _ (λ k. (c.type_inv.data k).fits) good c.tail_at.ensures)
+    ∙ sym (passed c.args.self (λ e. Err e) _ (sym c.in_ok-checked.ensures.first) ∙ simp (inside _ _ (last_byte c.args.idx c.args.self.num_bits) c.if-data-bit.false))

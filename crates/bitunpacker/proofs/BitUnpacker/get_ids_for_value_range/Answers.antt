@@ -1,61 +1,46 @@
 -- The refusals and the empty range are the five tests in their order. Past them `find` puts the ids at the start of the positions.
-use Rattle.std.proofs.Common.{◌≡◌, true, false, sym, ◌∙◌, le-leb, lt-ltb, le-ltb}
+use Rattle.std.specs.Prelude.{Err}
+use Rattle.std.proofs.Common.{sym, ◌∙◌, arith, le-leb, lt-ltb, le-ltb}
+use Rattle.std.proofs.lemmas.Result.{err_from_is_err_and}
 use borrow.Author.Tests.{lt-leb}
-use Rattle.bitunpacker.specs.Unpacker.{bad_width, damaged_mask, search_of}
-use Rattle.bitunpacker.proofs.Laws.{inside, outside}
+use Rattle.bit_rule.proofs.Width.{legal_le}
+use Rattle.bitunpacker.specs.Unpacker.{search, search_of}
+use Rattle.bitunpacker.proofs.Laws.{refused, passed, inside, outside}
 use Rattle.bitunpacker.proofs.Narrow.{kept_answer}
 use Rattle.bitunpacker.proofs.BitUnpacker.get_ids_for_value_range.Goals as goal
 
-pub returns-then-has_bad_width : goal.returns-then-has_bad_width
+pub returns-in_err-checked : goal.returns-in_err-checked
 unfolding search_of
-returns-then-has_bad_width c =
-    let bad : bad_width c.args.self ≡ true = sym c.has_bad_width.ensures ∙ c.if-has_bad_width.true in
-    simp bad
-
-pub returns-then-has_damaged_mask : goal.returns-then-has_damaged_mask
-unfolding search_of
-returns-then-has_damaged_mask c =
-    let width_ok : bad_width c.args.self ≡ false = sym c.has_bad_width.ensures ∙ c.if-has_bad_width.false in
-    let damaged : damaged_mask c.args.self ≡ true = sym c.has_damaged_mask.ensures ∙ c.if-has_damaged_mask.true in
-    simp (width_ok, damaged)
+returns-in_err-checked c =
+    let p = err_from_is_err_and c.from_residual.result c.from_residual.ensures.1 in
+    rw (p.1, p.2) (sym (refused c.args.self _ (λ e. search (Err e) c.args.positions.now) _ (sym c.in_err-checked.ensures.first)))
 
 pub returns-then-end-start : goal.returns-then-end-start
 unfolding search_of
 returns-then-end-start c =
-    let width_ok : bad_width c.args.self ≡ false = sym c.has_bad_width.ensures ∙ c.if-has_bad_width.false in
-    let mask_ok : damaged_mask c.args.self ≡ false = sym c.has_damaged_mask.ensures ∙ c.if-has_damaged_mask.false in
-    simp (width_ok, mask_ok, le-leb _ _ c.if-end-start.true)
+    sym (passed c.args.self (λ e. search (Err e) c.args.positions.now) _ (sym c.in_ok-checked.ensures.first) ∙ simp (le-leb _ _ c.if-end-start.true))
 
 pub returns-then-data-column_bytes : goal.returns-then-data-column_bytes
 unfolding search_of
 returns-then-data-column_bytes c =
-    let width_ok : bad_width c.args.self ≡ false = sym c.has_bad_width.ensures ∙ c.if-has_bad_width.false in
-    let mask_ok : damaged_mask c.args.self ≡ false = sym c.has_damaged_mask.ensures ∙ c.if-has_damaged_mask.false in
-    simp (width_ok, mask_ok, lt-leb _ _ c.if-end-start.false, outside _ _ c.column_bytes.ensures c.if-data-column_bytes.true)
+    let bytes = c.column_bytes.ensures.whole (omega arith, legal_le _ c.in_ok-checked.ensures.sound.legal) in
+    sym
+    (passed c.args.self (λ e. search (Err e) c.args.positions.now) _ (sym c.in_ok-checked.ensures.first)
+    ∙ simp (lt-leb _ _ c.if-end-start.false, outside _ _ bytes c.if-data-column_bytes.true))
 
 pub returns-then-positions-end : goal.returns-then-positions-end
 unfolding search_of
 returns-then-positions-end c =
-    let width_ok : bad_width c.args.self ≡ false = sym c.has_bad_width.ensures ∙ c.if-has_bad_width.false in
-    let mask_ok : damaged_mask c.args.self ≡ false = sym c.has_damaged_mask.ensures ∙ c.if-has_damaged_mask.false in
-    simp (
-      width_ok,
-      mask_ok,
-      lt-leb _ _ c.if-end-start.false,
-      inside _ _ c.column_bytes.ensures c.if-data-column_bytes.false,
-      lt-ltb _ _ c.if-positions-end.true,
-    )
+    let bytes = c.column_bytes.ensures.whole (omega arith, legal_le _ c.in_ok-checked.ensures.sound.legal) in
+    sym
+    (passed c.args.self (λ e. search (Err e) c.args.positions.now) _ (sym c.in_ok-checked.ensures.first)
+    ∙ simp (lt-leb _ _ c.if-end-start.false, inside _ _ bytes c.if-data-column_bytes.false, lt-ltb _ _ c.if-positions-end.true))
 
 pub returns : goal.returns
 unfolding search_of
 returns c =
-    let width_ok : bad_width c.args.self ≡ false = sym c.has_bad_width.ensures ∙ c.if-has_bad_width.false in
-    let mask_ok : damaged_mask c.args.self ≡ false = sym c.has_damaged_mask.ensures ∙ c.if-has_damaged_mask.false in
-    simp (
-      width_ok,
-      mask_ok,
-      lt-leb _ _ c.if-end-start.false,
-      inside _ _ c.column_bytes.ensures c.if-data-column_bytes.false,
-      le-ltb _ _ c.if-positions-end.false,
-    )
-    (kept_answer c.find.ensures)
+    let bytes = c.column_bytes.ensures.whole (omega arith, legal_le _ c.in_ok-checked.ensures.sound.legal) in
+    kept_answer c.find.ensures
+    ∙ sym
+    (passed c.args.self (λ e. search (Err e) c.args.positions.now) _ (sym c.in_ok-checked.ensures.first)
+    ∙ simp (lt-leb _ _ c.if-end-start.false, inside _ _ bytes c.if-data-column_bytes.false, le-ltb _ _ c.if-positions-end.false))
