@@ -1,6 +1,6 @@
 -- The calls that change a store: what sealing one block in the part at the used offset comes to in the whole areas, and what adding and
 -- flushing answer past each of their checks.
-use Rattle.std.specs.Prelude.{Ok, Err, Result}
+use Rattle.std.specs.Prelude.{Err, Result}
 use mathlib.Core.Path.{◌≡◌, sym, ap, ap₂, ◌∙◌}
 use mathlib.Core.Logic.{⊎_elim}
 use mathlib.Core.Bool.{false, cond}
@@ -25,7 +25,7 @@ use Rattle.block.specs.declared.Sealed.{Sealed}
 use Rattle.blocked_bitpacker.specs.declared.BlockedBitpacker.{BlockedBitpacker}
 use Rattle.blocked_bitpacker.specs.Store.{block_limit, none_waiting, store_of, fresh_store, damaged_store}
 use Rattle.blocked_bitpacker.specs.Calls.{made, new_of, changed, answered, refused_call, waiting_values, sealed, seal_or_refuse, waits, add_of, flush_of}
-use Rattle.blocked_bitpacker.proofs.Judged.{Judged}
+use Rattle.blocked_bitpacker.specs.Parts.{Judged}
 
 -- ---- making a store
 

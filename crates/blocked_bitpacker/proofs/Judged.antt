@@ -1,22 +1,18 @@
 -- What a store that is not damaged is known to be, in its two areas: each of the tests that the definition joins is false.
 use mathlib.Core.Path.{◌≡◌, refl, sym, ap, ◌∙◌}
 use mathlib.Core.Bool.{Bool, true, false, ◌||◌, ◌&&◌}
-use Prim.Native.Nat.{ℕ, ◌+◌, ◌*◌, ◌≤◌}
+use Prim.Native.Nat.{ℕ, ◌+◌, ◌*◌}
 use native.Mathlib.Omega.{arith}
 use lib.Dec.{ltb, eqb}
 use borrow.Author.Tests.{ltb-false, lt-ltb, eqb-false}
 use Rattle.blocked_bitpacker.specs.declared.BlockedBitpacker.{BlockedBitpacker}
-use Rattle.blocked_bitpacker.specs.Store.{block_limit, is_closed, damaged_store, SoundIn}
+use Rattle.blocked_bitpacker.specs.Store.{block_limit, is_closed, damaged_store}
+use Rattle.blocked_bitpacker.specs.Parts.{Judged}
 
 -- two tests joined by "or" that give false are both false
 pub neither : (a b : Bool) → (a || b) ≡ false → (a ≡ false) × (b ≡ false)
 neither true b h = absurd (let z : ◌≡◌ {A = ℕ} 0 1 = cc in omega arith)
 neither false b h = (refl, h)
-
-pub record Judged (s : BlockedBitpacker) (byteArea entryArea : ℕ) : Type 0 where
-  pub sound : SoundIn s
-  pub room : s.used + 8 ≤ byteArea
-  pub entries_there : 2 * s.blocks ≤ entryArea
 
 pub judged : (s : BlockedBitpacker) (byteArea entryArea : ℕ) → damaged_store s byteArea entryArea ≡ false → Judged s byteArea entryArea
 unfolding damaged_store

@@ -1,13 +1,13 @@
 -- What the words of an entry come to, and where the places of a block lie that is not damaged.
-use Rattle.std.specs.Prelude.{Ok, Err}
+use Rattle.std.specs.Prelude.{Ok, Err, Result, is_err}
 use Prim.Native.Nat.{ℕ, ◌+◌, ◌-◌, ◌*◌, ◌/◌, ◌%◌, ◌^◌, ◌≤◌, ◌<◌}
-use mathlib.Core.Path.{◌≡◌, refl, sym, ap, ◌∙◌}
+use mathlib.Core.Path.{◌≡◌, refl, sym, ap, ◌∙◌, subst}
 use mathlib.Core.Bool.{Bool, true, false, not, ◌&&◌, cond}
 use mathlib.Core.List.{List}
 use native.Mathlib.Nat.{mul-le-mul_right}
 use native.Mathlib.Omega.{arith}
 use lib.Dec.{ltb, eqb}
-use lib.ListN.{length, get_or, drop, length-drop}
+use lib.ListN.{length, drop, length-drop}
 use borrow.Author.Tests.{ltb-false, le-leb, not-false, eqb-true}
 use Rattle.bit_rule.proofs.Width.{legal_le}
 use Rattle.bit_rule.proofs.Parts.{rest_from, rest_from_is}
@@ -16,18 +16,13 @@ use Rattle.blocked_bitpacker.proofs.Judged.{neither}
 use Rattle.bit_rule.specs.Width.{legal_width}
 use Rattle.bitunpacker.specs.declared.BitUnpacker.{BitUnpacker}
 use Rattle.refusal.specs.declared.Refusal.{Refusal}
-use Rattle.bitunpacker.specs.Unpacker.{new_of}
+use Rattle.refusal.specs.declared.Refusal.TheVariants.{BadWidth}
+use Rattle.bitunpacker.specs.Unpacker.{unpacker_of, new_of}
 use Rattle.block.specs.Block.{bytes_of_block, entry_offset, entry_width, entry_base, damaged_entry, block_value}
-use Rattle.block.proofs.Reading.{new_says}
 use Rattle.blocked_bitpacker.specs.declared.BlockedBitpacker.{BlockedBitpacker}
 use Rattle.blocked_bitpacker.specs.Store.{SoundIn, is_closed, count_of, length_of_block}
 
 -- ---- an entry's words
-
--- a width is a byte
-pub width_small : (k : ℕ) (entries : List ℕ) → get_or entries (k * 2) 0 < 2 ^ 64 → entry_width k entries < 256
-unfolding entry_width
-width_small k entries fits = omega arith
 
 pub offset_small : (k : ℕ) (entries : List ℕ) → entry_offset k entries < 2 ^ 56
 unfolding entry_offset
@@ -45,15 +40,30 @@ block_length-le s k sound = go (is_closed s && eqb (k + 1) s.blocks)
 
 -- ---- whether an entry is damaged, by what `new` answers of its width
 
-module _ (used n k : ℕ) (entries : List ℕ) {w : ℕ} (width : w ≡ entry_width k entries) where
-  pub damaged_width : (why : Refusal) → Err why ≡ new_of w → damaged_entry used n k entries ≡ true
-  unfolding damaged_entry
-  damaged_width why not_made = simp (ap legal_width (sym width) ∙ (new_says w (Err why) not_made).0)
+-- there is no unpacker exactly where the width is not legal
+not_made : (w : ℕ) → is_err (new_of w) ≡ not (legal_width w)
+unfolding new_of
+not_made w = go (legal_width w)
+  where
+    go : (legal : Bool) → is_err {T = BitUnpacker} (cond (not legal) (Err BadWidth) (Ok (unpacker_of w))) ≡ not legal
+    go true = refl
+    go false = refl
 
-  pub damaged_end : {at m : ℕ} (u : BitUnpacker) → at ≡ entry_offset k entries → m ≡ n → Ok u ≡ new_of w
-      → damaged_entry used n k entries ≡ ltb used (at + bytes_of_block m w)
+module _ (used n k : ℕ) (entries : List ℕ) {w : ℕ} (width : w ≡ entry_width k entries) {made : Result BitUnpacker Refusal} (is : made ≡ new_of w) where
+  illegal_is : not (legal_width (entry_width k entries)) ≡ is_err made
+  illegal_is = ap (λ v. not (legal_width v)) (sym width) ∙ sym (not_made w) ∙ ap is_err (sym is)
+
+  pub damaged_width : is_err made ≡ true → damaged_entry used n k entries ≡ true
   unfolding damaged_entry
-  damaged_end u offset size made = simp (ap legal_width (sym width) ∙ (new_says w (Ok u) made).0, offset, size, width)
+  damaged_width refused = simp (illegal_is, refused)
+
+  pub narrow_width : is_err made ≡ false → w ≤ 64
+  narrow_width fine = subst (λ v. v ≤ 64) (sym width) (legal_le _ (not-false _ (illegal_is ∙ fine)))
+
+  pub damaged_end : is_err made ≡ false → {at size : ℕ} → at ≡ entry_offset k entries → size ≡ bytes_of_block n w
+      → damaged_entry used n k entries ≡ ltb used (at + size)
+  unfolding damaged_entry
+  damaged_end fine offset sized = simp (illegal_is, fine, offset, sized, width)
 
 -- ---- a block that is not damaged
 

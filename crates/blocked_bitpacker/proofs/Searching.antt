@@ -3,7 +3,7 @@
 use mathlib.Core.Path.{◌≡◌, sym, ap, ap₂, ◌∙◌}
 use mathlib.Core.List.{List, [], ◌∷◌, ◌++◌}
 use Prim.Native.Nat.{ℕ, ◌+◌, ◌-◌, ◌^◌, ◌≤◌, ◌<◌}
-use native.Mathlib.Nat.{zero-add, sub_self}
+use native.Mathlib.Nat.{zero-add}
 use native.Mathlib.Numerals.{add-one}
 use native.Mathlib.Omega.{arith}
 use lib.ListN.{length, get_or, take, drop}
@@ -64,14 +64,11 @@ module _ (s : BlockedBitpacker) (lo hi : ℕ) (bytes entries : List ℕ) where
       ∙ ap₂ (λ id k. matching_ids lo hi from us ++ matching_ids lo hi id (values k (to - mid)))
       (ap (λ n. from + n) (length-values_of s bytes entries from (mid - from)) ∙ there) there)
 
-  pub ids_none : (at : ℕ) → ids_of s lo hi at at bytes entries ≡ []
+  pub ids_none : (from to : ℕ) → to ≡ from → ids_of s lo hi from to bytes entries ≡ []
   unfolding ids_of values_of matching_ids
-  ids_none at = ap (λ n. matching_ids lo hi at (values_of s bytes entries at n)) (sub_self at)
-
-  -- the ids of so many values
-  pub ids_of_lem : (from n : ℕ) → matching_ids lo hi from (values_of s bytes entries from n) ≡ ids_of s lo hi from (from + n) bytes entries
-  unfolding ids_of
-  ids_of_lem from n = ap (λ m. matching_ids lo hi from (values_of s bytes entries from m)) (omega arith)
+  ids_none from to none =
+      let empty : to - from ≡ 0 = omega arith in
+      ap (λ n. matching_ids lo hi from (values_of s bytes entries from n)) empty
 
 -- ids at the start of the rest of the positions stand behind those found before
 pub kept_behind : {found r : ℕ} {ids positions ys : List ℕ} → found ≤ length positions → Kept 0 ids (rest_from found positions) r ys

@@ -1,15 +1,15 @@
 -- The values of a store from an index on, one stretch after the other: each stretch lies in one block, from whose bytes it is read, or among
 -- the values that wait. Two lists with the same elements are the same (`values_are`).
-use Rattle.std.specs.Prelude.{Ok}
 use Rattle.refusal.specs.Done.{done}
 use mathlib.Core.Path.{◌≡◌, refl, sym, ap, ap₂, ◌∙◌, subst}
 use mathlib.Core.Logic.{⊎_elim}
 use mathlib.Core.Bool.{Bool, true, false, ◌||◌, cond}
 use mathlib.Core.List.{List, [], ◌∷◌, ◌++◌, map, append_assoc}
-use Prim.Native.Nat.{ℕ, zero, suc, ◌+◌, ◌-◌, ◌*◌, ◌/◌, ◌%◌, ◌≤◌, ◌<◌, min}
+use Prim.Native.Nat.{ℕ, zero, suc, ◌+◌, ◌-◌, ◌*◌, ◌/◌, ◌%◌, ◌≤◌, ◌<◌, max, min}
 use native.Mathlib.Nat.{zero-add, add-zero, suc-add, le_antisymm}
 use native.Mathlib.Omega.{arith}
 use lib.ListN.{length, get_or, take, drop, length-append, length-map}
+use Rattle.std.proofs.lemmas.List.{get_or-take, get_or-drop}
 use lib.Seq.{ext_get_or, take_at, length-take-le}
 use borrow.Author.Tests.{lt-ltb, le-ltb, le-leb, ne_eqb}
 use borrow.Rule.Slice.PartMut.{mid_of, put_mid, post_of, mid_len}
@@ -81,13 +81,14 @@ module _ (s : BlockedBitpacker) (bytes : List ℕ) {i n : ℕ} {entries : List �
   next_place j h = omega (arith, here.together)
 
   -- the values that wait
-  pub waiting_values_lem : (out : List ℕ) → s.blocks ≤ i / 128 → length out ≡ n
-      → ((j : ℕ) → j < n → get_or out j 0 ≡ get_or s.buffer (i % 128 + j) 0) → out ≡ values_of s bytes entries i n
+  pub waiting_values_lem : (out : List ℕ) → s.blocks ≤ i / 128 → length out ≡ n → out ≡ take n (drop (i % 128) s.buffer) → out ≡ values_of s bytes entries i n
   unfolding value_of
-  waiting_values_lem out behind many each =
+  waiting_values_lem out behind many is =
       values_are s bytes entries i n out many
       (λ j h.
-      each j h
+      ap (λ l. get_or l j 0) is
+      ∙ get_or-take n (drop (i % 128) s.buffer) j 0 h
+      ∙ get_or-drop (i % 128) s.buffer j 0
       ∙ sym (simp (same_block j h, next_place j h, le-ltb (i / 128) s.blocks behind)))
 
   -- the values of a block
@@ -153,11 +154,17 @@ touched_fine s entries start end fine i from to there =
 
 -- ---- one stretch after the other
 
--- The next stretch of a range: as many indexes as lie in the block of the first.
-pub stretch_next : (s : BlockedBitpacker) (entries : List ℕ) (start end i left n : ℕ) → touched_damaged s entries start end ≡ false
-    → end ≤ count_of s → start ≤ i → 0 < left → i + left ≡ end → n ≡ min (128 - i % 128) left → Stretch s i n entries
-stretch_next s entries start end i left n fine counted from some to size =
-    record { some = omega arith; together = omega arith; counted = omega arith; fine = touched_fine s entries start end fine i from (omega arith) }
+-- The part of a range that lies in one block, which is not past its end.
+pub stretch_of_block : (s : BlockedBitpacker) (entries : List ℕ) (start end k from n : ℕ) → touched_damaged s entries start end ≡ false
+    → end ≤ count_of s → start < end → start / 128 ≤ k → 128 * k < end → from ≡ max start (128 * k) → from + n ≡ min end (128 * (k + 1))
+    → Stretch s from n entries
+stretch_of_block s entries start end k from n fine counted some first before is ends =
+    record {
+      some = omega arith;
+      together = omega arith;
+      counted = omega arith;
+      fine = touched_fine s entries start end fine from (omega arith) (omega arith);
+    }
 
 -- The output is filled up to `done`, and the stretch that follows is put behind that, up to `next`.
 pub fill_next : (s : BlockedBitpacker) (bytes entries out ys : List ℕ) (start done next : ℕ) → done ≤ next → next ≤ length out
@@ -176,3 +183,21 @@ fill_next s bytes entries out ys start done next onwards within filled read =
     ∙ ap₂ ◌++◌ filled stretch
     ∙ sym (values_of-add s bytes entries start done n)
     ∙ ap (values_of s bytes entries start) (omega arith)
+
+-- as `fill_next` says it of an output that is filled up to an index `from`, and the part up to an index `to` behind that
+pub fill_part : (s : BlockedBitpacker) (bytes entries out ys : List ℕ) (start from to : ℕ) {done next : ℕ} → start ≤ from → from ≤ to → to - start ≤ length out
+    → done ≡ from - start → next ≡ to - start → take done out ≡ values_of s bytes entries start done
+    → ys ≡ values_of s bytes entries from (length (mid_of (from - start) (to - start - (from - start)) out))
+    → take next (put_mid (from - start) (to - start - (from - start)) out ys) ≡ values_of s bytes entries start next
+fill_part s bytes entries out ys start from to first onwards within done-is next-is filled read =
+    let before = from - start in
+    let after = to - start in
+    let whole = put_mid before (after - before) out ys in
+    subst (λ n. take n whole ≡ values_of s bytes entries start n) (sym next-is)
+    (fill_next s bytes entries out ys start before after (omega arith) within
+    (subst (λ n. take n out ≡ values_of s bytes entries start n) done-is filled)
+    (read ∙ ap (λ i. values_of s bytes entries i (length (mid_of before (after - before) out))) (omega arith)))
+
+pub fill_none : (s : BlockedBitpacker) (bytes entries out : List ℕ) (start filled : ℕ) → filled ≡ 0 → take filled out ≡ values_of s bytes entries start filled
+unfolding values_of
+fill_none s bytes entries out start filled none = subst (λ n. take n out ≡ values_of s bytes entries start n) (sym none) refl

@@ -7,10 +7,11 @@ mod reading;
 
 ghost use Rattle.std.specs.Prelude.{◌≡◌, false, ◌≤◌, length};
 ghost use Rattle.bitunpacker.specs.Unpacker.{range, search};
-ghost use Rattle.blocked_bitpacker.specs.Store.{SoundIn, fresh_store, damaged_store, count_of};
+ghost use Rattle.blocked_bitpacker.specs.Store.{fresh_store, damaged_store};
+ghost use Rattle.blocked_bitpacker.specs.Parts.{Judged};
 ghost use Rattle.blocked_bitpacker.specs.Calls.{made, new_of, changed, refused_with, seal_or_refuse, add_of, flush_of, counted_of, get_of, get_range_of, search_of};
 
-use reading::{find, get_in_block, read_all, touches_damage};
+use reading::Lent;
 use refusal::Refusal;
 
 // The waiting values beside how many bytes and blocks are used, how many values wait, and, once a
@@ -55,10 +56,7 @@ impl BlockedBitpacker {
     {
         let store = BlockedBitpacker::fresh();
         if bytes.len() < 8 {
-            return Stored {
-                done: Err(Refusal::NoRoom),
-                store,
-            };
+            return store.refused(Refusal::NoRoom);
         }
         block::clear_eight(bytes);
         Stored {
@@ -68,86 +66,60 @@ impl BlockedBitpacker {
     }
 
     // Document 01's "Damaged", of a store in areas of so many bytes and entry words.
-    fn is_damaged(self, byte_area: usize, entry_area: usize) -> bool
-        ensures { result ≡ damaged_store self byte_area entry_area }
+    #[tactic(auto, unfolding(crate::specs::Store::damaged_store))]
+    pub(crate) fn is_damaged(&self, byte_area: usize, entry_area: usize) -> bool
+        ensures { result ≡ damaged_store self.now byte_area entry_area }
     {
-        if 127 < self.waiting {
-            return true;
-        }
-        if BlockedBitpacker::MAX_BLOCKS < self.blocks {
-            return true;
-        }
-        if 1024 * self.blocks < self.used {
-            return true;
-        }
-        if byte_area < self.used + 8 {
-            return true;
-        }
-        if entry_area < 2 * self.blocks {
-            return true;
-        }
-        if 127 < self.last_length {
-            return true;
-        }
-        if self.last_length == 0 {
-            return false;
-        }
-        if 0 < self.waiting {
-            return true;
-        }
-        self.blocks == 0
-    }
-
-    // How many values a store that is not damaged holds.
-    #[tactic(auto, unfolding(crate::specs::Store::count_of))]
-    fn accepted(self) -> usize
-        requires { SoundIn self }
-        ensures { result ≡ count_of self }
-    {
-        if 0 < self.last_length {
-            return 128 * (self.blocks - 1) + self.last_length;
-        }
-        128 * self.blocks + self.waiting
+        127 < self.waiting
+            || BlockedBitpacker::MAX_BLOCKS < self.blocks
+            || 1024 * self.blocks < self.used
+            || byte_area < self.used + 8
+            || entry_area < 2 * self.blocks
+            || 127 < self.last_length
+            || 0 < self.last_length && (0 < self.waiting || self.blocks == 0)
     }
 
     // How many values were accepted.
     pub fn count(self, bytes: &[u8], entries: &[u64]) -> Result<usize, Refusal>
         ensures { result ≡ counted_of self bytes.now entries.now }
     {
-        if self.is_damaged(bytes.len(), entries.len()) {
-            return Err(Refusal::Damaged);
-        }
-        Ok(self.accepted())
+        let lent = Lent::new(&self, bytes, entries)?;
+        Ok(lent.count())
+    }
+
+    // The places of the values that wait.
+    pub(crate) fn places(&self) -> &[u64]
+        ensures same { result.now ≡ self.now.buffer }
+        ensures len { length result.now ≡ 128 }
+    {
+        &self.buffer[..]
     }
 
     // A call that was refused, with the store as it came.
-    fn refused(self, why: Refusal) -> Stored
-        ensures { result ≡ refused_with why self }
+    fn refused(&self, why: Refusal) -> Stored
+        ensures { result ≡ refused_with why self.now }
     {
         Stored {
             done: Err(why),
-            store: self,
+            store: *self,
         }
     }
 
     // Seals some values as a block behind the others, with the last length that the store then has.
     fn seal(
-        self,
+        &self,
         values: &[u64],
         last_length: usize,
         bytes: &mut [u8],
         entries: &mut [u64],
     ) -> Stored
-        requires { damaged_store self (length bytes.old) (length entries.old) ≡ false }
-        ensures { changed result bytes.new entries.new ≡ seal_or_refuse self values.now last_length bytes.old entries.old }
+        requires { Judged self.now (length bytes.old) (length entries.old) }
+        ensures { changed result bytes.new entries.new ≡ seal_or_refuse self.now values.now last_length bytes.old entries.old }
     {
         let used = self.used;
         let blocks = self.blocks;
-        if BlockedBitpacker::MAX_BLOCKS <= blocks {
-            return self.refused(Refusal::EntriesFull);
-        }
         let at = 2 * blocks;
-        if entries.len() < at + 2 {
+        if BlockedBitpacker::MAX_BLOCKS <= blocks || entries.len() < at + 2 {
             return self.refused(Refusal::EntriesFull);
         }
         match block::seal(values, &mut bytes[used..]) {
@@ -189,8 +161,7 @@ impl BlockedBitpacker {
                 store: next,
             };
         }
-        let values = next.buffer;
-        self.seal(&values, 0, bytes, entries)
+        self.seal(next.places(), 0, bytes, entries)
     }
 
     // Seals what waits, and closes the store.
@@ -207,26 +178,18 @@ impl BlockedBitpacker {
                 store: self,
             };
         }
-        let values = self.buffer;
-        self.seal(&values[..waiting], waiting, bytes, entries)
+        self.seal(&self.places()[..waiting], waiting, bytes, entries)
     }
 
     // The value at an index.
     pub fn get(self, idx: usize, bytes: &[u8], entries: &[u64]) -> Result<u64, Refusal>
         ensures { result ≡ get_of self idx bytes.now entries.now }
     {
-        if self.is_damaged(bytes.len(), entries.len()) {
-            return Err(Refusal::Damaged);
-        }
-        if self.accepted() <= idx {
+        let lent = Lent::new(&self, bytes, entries)?;
+        if lent.count() <= idx {
             return Err(Refusal::NoSuchIndex);
         }
-        let block = idx / BlockedBitpacker::BLOCK_SIZE;
-        let place = idx % BlockedBitpacker::BLOCK_SIZE;
-        if block < self.blocks {
-            return get_in_block(self, block, place, bytes, entries);
-        }
-        Ok(self.buffer[place])
+        lent.get(idx)
     }
 
     // Fills the output with the values from an index on.
@@ -239,23 +202,18 @@ impl BlockedBitpacker {
     ) -> Result<(), Refusal>
         ensures { range result output.new ≡ get_range_of self start bytes.now entries.now output.old }
     {
-        if self.is_damaged(bytes.len(), entries.len()) {
-            return Err(Refusal::Damaged);
-        }
-        if output.len() == 0 {
+        let lent = Lent::new(&self, bytes, entries)?;
+        if output.is_empty() {
             return Ok(());
         }
-        let count = self.accepted();
-        if count < start {
+        let count = lent.count();
+        if count < start || count - start < output.len() {
             return Err(Refusal::NoSuchIndex);
         }
-        if count - start < output.len() {
-            return Err(Refusal::NoSuchIndex);
-        }
-        if touches_damage(self, start, start + output.len(), entries) {
+        if lent.touches_damage(start, start + output.len()) {
             return Err(Refusal::Damaged);
         }
-        read_all(self, start, bytes, entries, output);
+        lent.read_all(start, output);
         Ok(())
     }
 
@@ -273,21 +231,19 @@ impl BlockedBitpacker {
     ) -> Result<usize, Refusal>
         ensures { search result positions.new ≡ search_of self lo hi start end bytes.now entries.now positions.old }
     {
-        if self.is_damaged(bytes.len(), entries.len()) {
-            return Err(Refusal::Damaged);
-        }
+        let lent = Lent::new(&self, bytes, entries)?;
         if end <= start {
             return Ok(0);
         }
-        if self.accepted() < end as usize {
+        if lent.count() < end as usize {
             return Err(Refusal::NoSuchIndex);
         }
         if positions.len() < (end - start) as usize {
             return Err(Refusal::NoRoom);
         }
-        if touches_damage(self, start as usize, end as usize, entries) {
+        if lent.touches_damage(start as usize, end as usize) {
             return Err(Refusal::Damaged);
         }
-        Ok(find(self, lo, hi, start, end, bytes, entries, positions))
+        Ok(lent.find(lo, hi, start as usize, end as usize, positions))
     }
 }

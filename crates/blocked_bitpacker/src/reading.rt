@@ -1,187 +1,26 @@
 // Reads a store that was judged: its entries, one value, stretches of values, and the search.
-ghost use Rattle.std.specs.Prelude.{◌≡◌, false, ℕ, ◌+◌, ◌-◌, ◌*◌, ◌/◌, ◌%◌, ◌^◌, ◌≤◌, ◌<◌, min, length, get_or};
+ghost use Rattle.std.specs.Prelude.{◌≡◌, false, true, ℕ, ◌+◌, ◌-◌, ◌*◌, ◌/◌, ◌%◌, ◌^◌, ◌≤◌, ◌<◌, max, min, length, get_or, IfOk, IfErr};
 ghost use Rattle.bit_rule.specs.Search.{matching_ids};
+ghost use Rattle.refusal.specs.declared.Refusal.TheVariants.{Damaged};
 ghost use Rattle.bitunpacker.specs.Parts.{Kept};
 ghost use Rattle.block.specs.Block.{entry_offset, entry_width, entry_base, damaged_entry};
-ghost use Rattle.blocked_bitpacker.specs.Store.{SoundIn, damaged_store, count_of, length_of_block, values_of, touched_damaged};
+ghost use Rattle.blocked_bitpacker.specs.Store.{damaged_store, count_of, length_of_block, values_of, touched_damaged};
 ghost use Rattle.blocked_bitpacker.specs.Calls.{ids_of};
-ghost use Rattle.blocked_bitpacker.specs.Parts.{block_got, Stretch};
+ghost use Rattle.blocked_bitpacker.specs.Parts.{Judged, LentOn, got, Stretch};
+ghost use Rattle.std.proofs.Props.{props};
 
 use crate::BlockedBitpacker;
+use bit_rule::column_bytes;
 use bitunpacker::BitUnpacker;
 use filter_vec::lies_between;
 use refusal::Refusal;
 
 // What the two words of an entry say.
 #[derive(Clone, Copy)]
-pub(crate) struct Entry {
-    pub(crate) offset: usize,
-    pub(crate) width: usize,
-    pub(crate) base: u64,
-}
-
-#[tactic(auto, unfolding(block::specs::Block::entry_offset, block::specs::Block::entry_width, block::specs::Block::entry_base))]
-pub(crate) fn entry_at(entries: &[u64], k: usize) -> Entry
-    requires { k * 2 + 1 < length entries.now }
-    ensures { (result.offset ≡ entry_offset k entries.now) × (result.width ≡ entry_width k entries.now) × (result.base ≡ entry_base k entries.now) }
-{
-    let word = entries[k * 2];
-    Entry {
-        offset: (word % 0x100_0000_0000_0000) as usize,
-        width: (word / 0x100_0000_0000_0000) as usize,
-        base: entries[k * 2 + 1],
-    }
-}
-
-// How many values block k holds.
-#[tactic(auto, unfolding(crate::specs::Store::length_of_block))]
-pub(crate) fn block_length(store: BlockedBitpacker, k: usize) -> usize
-    requires { k < store.blocks }
-    ensures { result ≡ length_of_block store k }
-{
-    if store.last_length == 0 {
-        return 128;
-    }
-    if k + 1 == store.blocks {
-        return store.last_length;
-    }
-    128
-}
-
-// Document 01's "Damaged", of block k's entry.
-pub(crate) fn entry_is_damaged(store: BlockedBitpacker, k: usize, entries: &[u64]) -> bool
-    requires { SoundIn store × (k < store.blocks) × (2 * store.blocks ≤ length entries.now) }
-    ensures { result ≡ damaged_entry store.used (length_of_block store k) k entries.now }
-{
-    let entry = entry_at(entries, k);
-    let n = block_length(store, k);
-    let width = entry.width;
-    match BitUnpacker::new(width as u8) {
-        Err(_) => true,
-        Ok(_) => store.used < entry.offset + (n * width + 7) / 8,
-    }
-}
-
-// The value at a place of block k, unless its entry is damaged.
-pub(crate) fn get_in_block(
-    store: BlockedBitpacker,
-    k: usize,
-    place: usize,
-    bytes: &[u8],
-    entries: &[u64],
-) -> Result<u64, Refusal>
-    requires entries_value { damaged_store store (length bytes.now) (length entries.now) ≡ false }
-    requires k_lt_blocks { (k < store.blocks) × (place < length_of_block store k) }
-    ensures { result ≡ block_got store k place bytes.now entries.now }
-{
-    if entry_is_damaged(store, k, entries) {
-        return Err(Refusal::Damaged);
-    }
-    let entry = entry_at(entries, k);
-    let offset = entry.offset;
-    let width = entry.width as u8;
-    block::read_one(entry.base, width, place as u32, &bytes[offset..])
-}
-
-// Where the blocks end that hold an index before the end.
-fn blocks_before(store: BlockedBitpacker, end: usize) -> usize
-    requires { end < 2 ^ 63 }
-    ensures { result ≡ min ((end + 127) / 128) store.blocks }
-{
-    let blocks = (end + 127) / 128;
-    if blocks < store.blocks {
-        blocks
-    } else {
-        store.blocks
-    }
-}
-
-// Whether a block that holds an index from start to before end has a damaged entry.
-pub(crate) fn touches_damage(
-    store: BlockedBitpacker,
-    start: usize,
-    end: usize,
-    entries: &[u64],
-) -> bool
-    requires { SoundIn store × (2 * store.blocks ≤ length entries.now) × (end ≤ count_of store) }
-    ensures { result ≡ touched_damaged store entries.now start end }
-{
-    let last = blocks_before(store, end);
-    let mut k = start / 128;
-    while k < last {
-        if entry_is_damaged(store, k, entries) {
-            return true;
-        }
-        k += 1;
-    }
-    false
-}
-
-// Copies waiting values from a place on.
-fn copy_waiting(store: BlockedBitpacker, place: usize, output: &mut [u64])
-    requires { place + length output.old ≤ 128 }
-    ensures { (j : ℕ) → j < length output.old → get_or output.new j 0 ≡ get_or store.buffer (place + j) 0 }
-{
-    let mut i = 0;
-    while i < output.len() {
-        output[i] = store.buffer[place + i];
-        i += 1;
-    }
-}
-
-// Fills the output with the values from an index on, all of which lie in one block or wait.
-fn read_stretch(
-    store: BlockedBitpacker,
-    idx: usize,
-    bytes: &[u8],
-    entries: &[u64],
-    output: &mut [u64],
-)
-    requires entries_value { damaged_store store (length bytes.now) (length entries.now) ≡ false }
-    requires stretch { Stretch store idx (length output.old) entries.now }
-    ensures { output.new ≡ values_of store bytes.now entries.now idx (length output.old) }
-{
-    let k = idx / 128;
-    let place = idx % 128;
-    if store.blocks <= k {
-        copy_waiting(store, place, output);
-        return;
-    }
-    let entry = entry_at(entries, k);
-    let offset = entry.offset;
-    let width = entry.width as u8;
-    let _ = block::read(entry.base, width, place as u32, &bytes[offset..], output);
-}
-
-// How many of n values from an index on lie in its block.
-fn stretch(idx: usize, n: usize) -> usize
-    ensures { result ≡ min (128 - idx % 128) n }
-{
-    let rest = 128 - idx % 128;
-    if rest < n { rest } else { n }
-}
-
-// Fills the output with the values from an index on, one stretch after the other.
-pub(crate) fn read_all(
-    store: BlockedBitpacker,
-    start: usize,
-    bytes: &[u8],
-    entries: &[u64],
-    output: &mut [u64],
-)
-    requires entries_value { damaged_store store (length bytes.now) (length entries.now) ≡ false }
-    requires output_bound { start + length output.old ≤ count_of store }
-    requires output_value { touched_damaged store entries.now start (start + length output.old) ≡ false }
-    ensures { output.new ≡ values_of store bytes.now entries.now start (length output.old) }
-{
-    let len = output.len();
-    let mut done = 0;
-    while done < len {
-        let idx = start + done;
-        let next = done + stretch(idx, len - done);
-        read_stretch(store, idx, bytes, entries, &mut output[done..next]);
-        done = next;
-    }
+struct Entry {
+    offset: usize,
+    width: u8,
+    base: u64,
 }
 
 // Writes the ids of matching values to the start of the positions, and says how many they are.
@@ -190,71 +29,210 @@ fn keep(lo: u64, hi: u64, id: u32, values: &[u64], positions: &mut [u32]) -> usi
     ensures { Kept 0 (matching_ids lo hi id values.now) positions.old result positions.new }
 {
     let mut found = 0;
-    let mut i = 0;
-    while i < values.len() {
-        if lies_between(lo, hi, values[i]) {
+    for (i, value) in values.iter().enumerate() {
+        if lies_between(lo, hi, *value) {
             positions[found] = id + i as u32;
             found += 1;
         }
-        i += 1;
     }
     found
 }
 
-// Writes the ids of the matching values of one stretch to the start of the positions.
-fn find_in_stretch(
-    store: BlockedBitpacker,
-    lo: u64,
-    hi: u64,
-    id: u32,
-    n: usize,
-    bytes: &[u8],
-    entries: &[u64],
-    positions: &mut [u32],
-) -> usize
-    requires entries_value { damaged_store store (length bytes.now) (length entries.now) ≡ false }
-    requires stretch { Stretch store id n entries.now }
-    requires n_bound { (id + n ≤ 2 ^ 32) × (n ≤ length positions.old) }
-    ensures { Kept 0 (ids_of store lo hi id (id + n) bytes.now entries.now) positions.old result positions.new }
-{
-    let mut values = [0u64; 128];
-    read_stretch(store, id as usize, bytes, entries, &mut values[..n]);
-    keep(lo, hi, id, &values[..n], positions)
+// A store that is not damaged, in the two areas that are lent with it.
+#[derive(Clone, Copy)]
+pub(crate) struct Lent<'a> {
+    pub(crate) store: &'a BlockedBitpacker,
+    pub(crate) bytes: &'a [u8],
+    pub(crate) entries: &'a [u64],
+    ghost judged: { Judged store.now (length bytes.now) (length entries.now) } by { Prim.hlevel props },
 }
 
-// Writes the ids from start to before end whose value lies in lo..=hi, ascending, to the start of the
-// positions, and says how many they are.
-pub(crate) fn find(
-    store: BlockedBitpacker,
-    lo: u64,
-    hi: u64,
-    start: u32,
-    end: u32,
-    bytes: &[u8],
-    entries: &[u64],
-    positions: &mut [u32],
-) -> usize
-    requires entries_value { damaged_store store (length bytes.now) (length entries.now) ≡ false }
-    requires start_le_end { (start ≤ end) × (end ≤ count_of store) × (end - start ≤ length positions.old) }
-    requires end_value { touched_damaged store entries.now start end ≡ false }
-    ensures { Kept 0 (ids_of store lo hi start end bytes.now entries.now) positions.old result positions.new }
-{
-    let mut found = 0;
-    let mut id = start;
-    while id < end {
-        let n = stretch(id as usize, (end - id) as usize);
-        found = found
-            + find_in_stretch(
-                store,
-                lo,
-                hi,
-                id,
-                n,
-                bytes,
-                entries,
-                &mut positions[found..],
-            );
-        id += n as u32;
+impl<'a> Lent<'a> {
+    // The store in its areas, refused where it is damaged there.
+    #[tactic(auto, using(crate::proofs::Judged::judged))]
+    pub(crate) fn new(
+        store: &'a BlockedBitpacker,
+        bytes: &'a [u8],
+        entries: &'a [u64],
+    ) -> Result<Lent<'a>, Refusal>
+        ensures lent { IfOk result (λ lent. LentOn store.now bytes.now entries.now lent.store.now lent.bytes.now lent.entries.now) }
+        ensures refused { IfErr result (λ why. (why ≡ Damaged) × (damaged_store store.now (length bytes.now) (length entries.now) ≡ true)) }
+    {
+        if store.is_damaged(bytes.len(), entries.len()) {
+            return Err(Refusal::Damaged);
+        }
+        Ok(Lent {
+            store,
+            bytes,
+            entries,
+        })
     }
-    found
+
+    // How many values the store holds.
+    #[tactic(auto, unfolding(crate::specs::Store::count_of))]
+    pub(crate) fn count(&self) -> usize
+        ensures { result ≡ count_of self.now.store.now }
+    {
+        let store = self.store;
+        if 0 < store.last_length {
+            return BlockedBitpacker::BLOCK_SIZE * (store.blocks - 1) + store.last_length;
+        }
+        BlockedBitpacker::BLOCK_SIZE * store.blocks + store.waiting
+    }
+
+    // What the entry of block k says.
+    #[tactic(auto, unfolding(block::specs::Block::entry_offset, block::specs::Block::entry_width, block::specs::Block::entry_base))]
+    fn entry(&self, k: usize) -> Entry
+        requires { k < self.now.store.now.blocks }
+        ensures { (result.offset ≡ entry_offset k self.now.entries.now) × (result.width ≡ entry_width k self.now.entries.now) × (result.base ≡ entry_base k self.now.entries.now) }
+    {
+        let word = self.entries[k * 2];
+        Entry {
+            offset: (word % 0x100_0000_0000_0000) as usize,
+            width: (word / 0x100_0000_0000_0000) as u8,
+            base: self.entries[k * 2 + 1],
+        }
+    }
+
+    // How many values block k holds.
+    #[tactic(auto, unfolding(crate::specs::Store::length_of_block))]
+    fn block_length(&self, k: usize) -> usize
+        requires { k < self.now.store.now.blocks }
+        ensures { result ≡ length_of_block self.now.store.now k }
+    {
+        let store = self.store;
+        if 0 < store.last_length && k + 1 == store.blocks {
+            return store.last_length;
+        }
+        BlockedBitpacker::BLOCK_SIZE
+    }
+
+    // Document 01's "Damaged", of block k's entry.
+    fn entry_is_damaged(&self, k: usize) -> bool
+        requires { k < self.now.store.now.blocks }
+        ensures { result ≡ damaged_entry self.now.store.now.used (length_of_block self.now.store.now k) k self.now.entries.now }
+    {
+        let entry = self.entry(k);
+        if BitUnpacker::new(entry.width).is_err() {
+            return true;
+        }
+        let size = column_bytes(self.block_length(k), usize::from(entry.width));
+        self.store.used < entry.offset + size
+    }
+
+    // The value at an index, unless it lies in a block whose entry is damaged.
+    pub(crate) fn get(&self, idx: usize) -> Result<u64, Refusal>
+        requires { idx < count_of self.now.store.now }
+        ensures { result ≡ got self.now.store.now idx self.now.bytes.now self.now.entries.now }
+    {
+        let k = idx / BlockedBitpacker::BLOCK_SIZE;
+        let place = idx % BlockedBitpacker::BLOCK_SIZE;
+        if self.store.blocks <= k {
+            return Ok(self.store.buffer[place]);
+        }
+        if self.entry_is_damaged(k) {
+            return Err(Refusal::Damaged);
+        }
+        let entry = self.entry(k);
+        block::read_one(
+            entry.base,
+            entry.width,
+            place as u32,
+            &self.bytes[entry.offset..],
+        )
+    }
+
+    // Whether a block that holds an index from start to before end has a damaged entry.
+    pub(crate) fn touches_damage(&self, start: usize, end: usize) -> bool
+        requires { end ≤ count_of self.now.store.now }
+        ensures { result ≡ touched_damaged self.now.store.now self.now.entries.now start end }
+    {
+        let first = start / BlockedBitpacker::BLOCK_SIZE;
+        let last = end
+            .div_ceil(BlockedBitpacker::BLOCK_SIZE)
+            .min(self.store.blocks);
+        for k in first..last {
+            if self.entry_is_damaged(k) {
+                return true;
+            }
+        }
+        false
+    }
+
+    // Fills the output with the values from an index on, all of which lie in one block or wait.
+    fn read_stretch(&self, idx: usize, output: &mut [u64])
+        requires { Stretch self.now.store.now idx (length output.old) self.now.entries.now }
+        ensures { output.new ≡ values_of self.now.store.now self.now.bytes.now self.now.entries.now idx (length output.old) }
+    {
+        let k = idx / BlockedBitpacker::BLOCK_SIZE;
+        let place = idx % BlockedBitpacker::BLOCK_SIZE;
+        if self.store.blocks <= k {
+            output.copy_from_slice(&self.store.places()[place..place + output.len()]);
+            return;
+        }
+        let entry = self.entry(k);
+        let bytes = &self.bytes[entry.offset..];
+        let _ = block::read(entry.base, entry.width, place as u32, bytes, output);
+    }
+
+    // Fills the output with the values from an index on, one block's after the other's.
+    #[tactic(auto, using(crate::proofs::Values::count_small))]
+    pub(crate) fn read_all(&self, start: usize, output: &mut [u64])
+        requires some { 0 < length output.old }
+        requires counted { start + length output.old ≤ count_of self.now.store.now }
+        requires fine { touched_damaged self.now.store.now self.now.entries.now start (start + length output.old) ≡ false }
+        ensures { output.new ≡ values_of self.now.store.now self.now.bytes.now self.now.entries.now start (length output.old) }
+    {
+        let end = start + output.len();
+        let last = end.div_ceil(BlockedBitpacker::BLOCK_SIZE);
+        for k in start / BlockedBitpacker::BLOCK_SIZE..last {
+            let from = start.max(BlockedBitpacker::BLOCK_SIZE * k);
+            let to = end.min(BlockedBitpacker::BLOCK_SIZE * (k + 1));
+            self.read_stretch(from, &mut output[from - start..to - start]);
+        }
+    }
+
+    // Writes the ids of the matching values of one stretch to the start of the positions.
+    fn find_in_stretch(
+        &self,
+        lo: u64,
+        hi: u64,
+        from: usize,
+        to: usize,
+        positions: &mut [u32],
+    ) -> usize
+        requires stretch { Stretch self.now.store.now from (to - from) self.now.entries.now }
+        requires ids { (from ≤ to) × (to < 2 ^ 32) × (to - from ≤ length positions.old) }
+        ensures { Kept 0 (ids_of self.now.store.now lo hi from to self.now.bytes.now self.now.entries.now) positions.old result positions.new }
+    {
+        let n = to - from;
+        let mut values = [0u64; 128];
+        self.read_stretch(from, &mut values[..n]);
+        keep(lo, hi, from as u32, &values[..n], positions)
+    }
+
+    // Writes the ids from start to before end whose value lies in lo..=hi, ascending, to the start of the
+    // positions, and says how many they are.
+    pub(crate) fn find(
+        &self,
+        lo: u64,
+        hi: u64,
+        start: usize,
+        end: usize,
+        positions: &mut [u32],
+    ) -> usize
+        requires range { (start < end) × (end < 2 ^ 32) × (end ≤ count_of self.now.store.now) }
+        requires room { end - start ≤ length positions.old }
+        requires fine { touched_damaged self.now.store.now self.now.entries.now start end ≡ false }
+        ensures { Kept 0 (ids_of self.now.store.now lo hi start end self.now.bytes.now self.now.entries.now) positions.old result positions.new }
+    {
+        let last = end.div_ceil(BlockedBitpacker::BLOCK_SIZE);
+        let mut found = 0;
+        for k in start / BlockedBitpacker::BLOCK_SIZE..last {
+            let from = start.max(BlockedBitpacker::BLOCK_SIZE * k);
+            let to = end.min(BlockedBitpacker::BLOCK_SIZE * (k + 1));
+            found += self.find_in_stretch(lo, hi, from, to, &mut positions[found..]);
+        }
+        found
+    }
 }

@@ -6,7 +6,7 @@ use Rattle.blocked_bitpacker.proofs.BlockedBitpacker.new.Goals as goal
 
 pub returns-then-bytes-lt8 : goal.returns-then-bytes-lt8
 unfolding new_of
-returns-then-bytes-lt8 c = simp (lt-ltb _ _ c.if-bytes-lt8.true, c.fresh-store.ensures)
+returns-then-bytes-lt8 c = simp (lt-ltb _ _ c.if-bytes-lt8.true, c.refused.ensures, c.fresh-store.ensures)
 
 pub returns : goal.returns
 returns c = made_fresh _ c.if-bytes-lt8.false _ c.fresh-store.ensures _ c.clear_eight.ensures

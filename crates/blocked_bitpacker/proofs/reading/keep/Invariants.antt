@@ -1,12 +1,7 @@
--- The invariant is `Searched`: the ids of the matching values among the first i are found. A turn looks at one value more. The measure is
--- how many values are left.
-use Rattle.std.proofs.Common.{◌-◌, ◌≤◌, length, take}
+-- The invariant is `Searched`: the ids of the matching values among the first i are found. A turn looks at one value more.
+use Rattle.std.proofs.Common.{◌≤◌, take}
 use Rattle.bit_rule.proofs.Search.{Searched}
 use Rattle.blocked_bitpacker.proofs.reading.keep.Given as goal
 
 abbrev pub invariant-loop-i : goal.invariant-loop-i
-invariant-loop-i l =
-    (l.i ≤ length l.values) × (l.found ≤ l.i) × Searched l.lo l.hi l.id (take l.i l.values) l.initial.positions l.found l.positions
-
-abbrev pub decreases-loop-i : goal.decreases-loop-i
-decreases-loop-i l = length l.values - l.i
+invariant-loop-i l = (l.found ≤ l.i) × Searched l.lo l.hi l.id (take l.i l.values) l.initial.positions l.found l.positions
