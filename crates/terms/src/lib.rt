@@ -73,6 +73,7 @@ fn refused(why: Refusal, store: BlockedBitpacker) -> Stored
 
 // Adds a line's number to a store in which the block that is to hold it has an entry: a text is refused by its
 // first value that could never be sealed.
+#[tactic(auto, using(blocked_bitpacker::proofs::Counting::counted, blocked_bitpacker::proofs::Counting::not_counted), unfolding(crate::specs::Loading::add_line_of))]
 fn add(store: BlockedBitpacker, value: u64, bytes: &mut [u8], entries: &mut [u64]) -> Stored
     ensures { changed result bytes.new entries.new ≡ add_line_of store value bytes.old entries.old }
 {
@@ -145,6 +146,7 @@ impl Loading {
     }
 
     // Takes the next piece of the text. After what stopped it, nothing more is looked at.
+    #[tactic(auto, using(crate::proofs::Laws::trouble_stays, crate::proofs::Laws::feed_next, crate::proofs::Laws::other_next, crate::proofs::Laws::nothing_left))]
     pub fn take(self, text: &[u8], bytes: &mut [u8], entries: &mut [u64]) -> Loading
         ensures { taken result bytes.new entries.new ≡ bytes_of self text.now bytes.old entries.old }
     {
@@ -184,7 +186,7 @@ impl Loading {
 
     // The text ends here. Every line of it has its line end: what follows the last one stops it, and so does a text
     // that has no line.
-    #[tactic(auto, using(crate::proofs::Laws::same_loaded, crate::proofs::Laws::end_troubled, crate::proofs::Laws::end_without_line, crate::proofs::Laws::end_after_feed, crate::proofs::Laws::end_in_wrong_line, crate::proofs::Laws::end_in_line))]
+    #[tactic(auto, unfolding(crate::specs::Loading::end_of))]
     pub fn end(self) -> Loaded
         ensures { result ≡ end_of self }
     {
