@@ -1,52 +1,61 @@
-// A line of numbers in lowercase hexadecimal, a byte between two, read byte by byte into a lent area, where the
-// number that is being read has its place already.
-ghost use Rattle.std.specs.Prelude.{◌<◌, ◌≤◌};
+// A line of numbers in lowercase hexadecimal, a byte between two, read byte by byte.
+ghost use Rattle.std.specs.Prelude.{◌<◌};
 
 use crate::areas::ROOM;
+use std::array;
 
-// A digit's value, or 16 for a byte that is no digit.
-fn digit(byte: u8) -> u64 {
+// The digit that a byte is. None is in capitals.
+fn digit(byte: u8) -> Option<u64> {
     match byte {
-        b'0'..=b'9' => (byte - b'0') as u64,
-        b'a'..=b'f' => (byte - b'a' + 10) as u64,
-        _ => 16,
+        b'0'..=b'9' => Some(u64::from(byte - b'0')),
+        b'a'..=b'f' => Some(u64::from(byte - b'a' + 10)),
+        _ => None,
     }
 }
 
-// Where the next number is read after a byte that is no digit. No line has more numbers than there is room for.
-fn place_after(byte: u8, place: usize) -> usize
-    requires { place < 8192 }
-    ensures { result < 8192 }
-{
-    if byte == b'\n' {
-        return 0;
+// The numbers so far, and the place of the one that is being read. No line has more numbers than there is room for.
+#[derive(Drop)]
+pub struct Line {
+    numbers: [u64; ROOM],
+    place: usize,
+    ghost inside: { place < 8192 },
+}
+
+impl Line {
+    pub fn new() -> Line {
+        Line {
+            numbers: [0; ROOM],
+            place: 0,
+        }
     }
-    (place + 1) % ROOM
-}
 
-// Reads a byte more, where the number at a place is being read, and answers at which place the next byte is.
-pub fn read_byte(byte: u8, before: usize, numbers: &mut [u64; ROOM]) -> usize {
-    let place = at_most(before as u64, ROOM - 1);
-    let digit = digit(byte);
-    if digit < 16 {
-        numbers[place] = (numbers[place] << 4) | digit;
-        return place;
+    // The first number is the step's kind.
+    pub fn kind(&self) -> u64 {
+        self.numbers[0]
     }
-    let next = place_after(byte, place);
-    numbers[next] = 0;
-    next
+
+    // The numbers after the first.
+    pub fn step(&self) -> &[u64] {
+        &self.numbers[1..self.place + 1]
+    }
+
+    pub fn read(&mut self, byte: u8) {
+        if let Some(digit) = digit(byte) {
+            self.numbers[self.place] = (self.numbers[self.place] << 4) | digit;
+            return;
+        }
+        self.place = if byte == b'\n' {
+            0
+        } else {
+            (self.place + 1) % ROOM
+        };
+        self.numbers[self.place] = 0;
+    }
 }
 
-// The number at a place of a step, or 0 where there is none.
-pub fn at(step: &[u64], place: usize) -> u64 {
-    if place < step.len() { step[place] } else { 0 }
-}
-
-pub fn at_most(number: u64, most: usize) -> usize
-    ensures { result ≤ most }
-{
-    let n = number as usize;
-    if n < most { n } else { most }
+// The first numbers of a step, with 0 for each that it lacks.
+pub fn first<const N: usize>(step: &[u64]) -> [u64; N] {
+    array::from_fn(|i| step.get(i).copied().unwrap_or(0))
 }
 
 // The last 32 bits, and the last 8.

@@ -1,20 +1,25 @@
 // What is asked of values alone.
 use crate::areas;
-use crate::areas::ROOM;
-use crate::line::{at, at_most, low_u32};
-use crate::say::{say, say_one, say_places};
-use std::num::wrapping_add_usize;
+use crate::areas::within;
+use crate::line::{first, low_u32};
+use crate::say::{say, say_area};
 
-fn say_both(port: Option<(u64, u64)>) {
+// `N`, answered by its width.
+pub fn num_bits(rt: &impl Print, step: &[u64]) {
+    let [number] = first::<1>(step);
+    say(rt, &[u64::from(num_bits::compute_num_bits(number))]);
+}
+
+fn say_both(rt: &impl Print, port: Option<(u64, u64)>) {
     match port {
-        None => say_one(0),
-        Some((lowest, highest)) => say(1, &[lowest, highest]),
+        None => say(rt, &[0]),
+        Some((lowest, highest)) => say(rt, &[1, lowest, highest]),
     }
 }
 
 // `V0 V1 ..`, answered by 0 for none, or by 1, the lowest and the highest.
-pub fn minmax(values: &[u64]) {
-    say_both(num_bits::minmax(values));
+pub fn minmax(rt: &impl Print, values: &[u64]) {
+    say_both(rt, num_bits::minmax(values));
 }
 
 const SIGN: u64 = 0x8000_0000_0000_0000;
@@ -28,14 +33,14 @@ const NAN: u64 = 0x7ff8_0000_0000_0000;
 #[tactic(auto, using(std::proofs::lemmas::Float::not_nan_f64_bits))]
 fn float_of(pattern: u64) -> f64 {
     if pattern % SIGN > INFINITY {
-        return 0.0 / 0.0;
+        return f64::NAN;
     }
     f64::from_bits(pattern)
 }
 
 // No recorded answer is a NaN, so one of the port's is a difference whatever its pattern.
 fn pattern_of(x: f64) -> u64 {
-    if x == x { f64::to_bits(x) } else { NAN }
+    if x.is_nan() { NAN } else { x.to_bits() }
 }
 
 fn patterns_of(port: Option<(f64, f64)>) -> Option<(u64, u64)> {
@@ -44,36 +49,36 @@ fn patterns_of(port: Option<(f64, f64)>) -> Option<(u64, u64)> {
 }
 
 // The same of floats with these patterns.
-pub fn minmax_of_patterns(patterns: &[u64]) {
-    let mut floats = areas::floats();
-    let count = at_most(patterns.len() as u64, ROOM);
-    for i in 0..count {
-        floats[i] = float_of(at(patterns, i));
+pub fn minmax_of_patterns(rt: &impl Print, patterns: &[u64]) {
+    let mut room = areas::floats();
+    let floats = &mut room[..within(patterns.len() as u64, areas::ROOM)];
+    for (float, pattern) in floats.iter_mut().zip(patterns) {
+        *float = float_of(*pattern);
     }
-    say_both(patterns_of(num_bits::minmax(&floats[0..count])));
+    say_both(rt, patterns_of(num_bits::minmax(floats)));
 }
 
-// `LO HI OFFSET V0 V1 ..`: puts the values, which have 32 bits, into the places.
-fn narrow(step: &[u64], places: &mut [u32]) {
-    for i in 0..places.len() {
-        places[i] = low_u32(at(step, wrapping_add_usize(i, 3)));
+// Puts the values, which have 32 bits, into as many places.
+fn narrow(values: &[u64], places: &mut [u32]) {
+    for (place, value) in places.iter_mut().zip(values) {
+        *place = low_u32(*value);
     }
 }
 
-// Answered by 0, by how many ids there are, and by every place of the slice.
-pub fn filter(step: &[u64]) {
-    if step.len() < 3 {
-        say_one(0xbad);
+// `LO HI OFFSET V0 V1 ..`, answered by 0, by how many ids there are, and by every place of the slice.
+pub fn filter(rt: &impl Print, step: &[u64]) {
+    let [lo, hi, offset, values @ ..] = step else {
+        say(rt, &[0xbad]);
         return;
-    }
+    };
     let mut room = areas::positions();
-    let places = &mut room[0..at_most(step.len() as u64 - 3, ROOM)];
-    narrow(step, places);
+    let places = &mut room[..within(values.len() as u64, areas::ROOM)];
+    narrow(values, places);
     let found = filter_vec::filter_vec_in_place(
-        low_u32(at(step, 0)),
-        low_u32(at(step, 1)),
-        low_u32(at(step, 2)),
+        low_u32(*lo),
+        low_u32(*hi),
+        low_u32(*offset),
         places,
     );
-    say_places(0, found as u64, places);
+    say_area(rt, &[0, found as u64], places);
 }

@@ -1,102 +1,42 @@
 // An answer on standard output: numbers in lowercase hexadecimal, each after one space, and a line feed.
-ghost use Rattle.std.specs.Prelude.{◌≤◌};
+use refusal::Refusal;
+use std::fmt;
 
-use crate::line::at_most;
-
-// The descriptor of standard output.
-const STDOUT: i32 = 1;
-
-// What is to be printed gathers in a page of so many bytes.
-const PAGE: usize = 4096;
-
-// Behind this place a number may not fit any more, or the line feed.
-const FULL: usize = PAGE - 18;
-
-fn print(page: &[u8; PAGE], end: usize)
-    requires { end ≤ 4096 }
-{
-    let whole = &page[..];
-    io::write_all(STDOUT, &whole[0..end]);
+// Some numbers, and what an area holds behind them.
+#[derive(Clone, Copy)]
+struct Answer<'a, T> {
+    numbers: &'a [u64],
+    area: &'a [T],
 }
 
-// Prints a page that is full, and answers where its bytes end then.
-fn with_room(end: usize, page: &[u8; PAGE]) -> usize
-    requires { end ≤ 4095 }
-    ensures { result ≤ 4078 }
-{
-    if end > FULL {
-        print(page, end);
-        return 0;
+impl<T: Copy + Into<u64>> fmt::Display for Answer<'_, T> {
+    fn fmt<W: fmt::Write>(&self, f: &mut fmt::Formatter<W>) -> fmt::Result {
+        for number in self.numbers {
+            write!(f, " {number:x}")?;
+        }
+        for element in self.area {
+            let number: u64 = (*element).into();
+            write!(f, " {number:x}")?;
+        }
+        Ok(())
     }
-    end
 }
 
-// Puts a space and a number behind what the page has, and answers where its bytes end then.
-fn put(number: u64, end: usize, page: &mut [u8; PAGE]) -> usize
-    requires { end ≤ 4095 }
-    ensures { result ≤ 4095 }
-{
-    let mut at = with_room(end, page);
-    page[at] = b' ';
-    let mut text = [0u8; 16];
-    let digits = at_most(io::hex(number, 1, &mut text) as u64, 16);
-    let mut i = 0;
-    while i < digits {
-        at += 1;
-        page[at] = text[i];
-        i += 1;
+// Whoever compares the answers sees where standard output did not take one.
+pub fn say_area<T: Copy + Into<u64>>(rt: &impl Print, numbers: &[u64], area: &[T]) {
+    let answer = Answer { numbers, area };
+    let _ = println!(rt; "{answer}");
+}
+
+pub fn say(rt: &impl Print, numbers: &[u64]) {
+    let nothing: &[u64] = &[];
+    say_area(rt, numbers, nothing);
+}
+
+// 0, or the number of the refusal.
+pub fn number_of<T: Copy>(port: Result<T, Refusal>) -> u64 {
+    match port {
+        Ok(_) => 0,
+        Err(why) => u64::from(why.number()),
     }
-    at + 1
-}
-
-fn finish(end: usize, page: &mut [u8; PAGE])
-    requires { end ≤ 4095 }
-{
-    page[end] = b'\n';
-    print(page, end + 1);
-}
-
-pub fn say_one(number: u64) {
-    let mut page = io::buffer();
-    let end = put(number, 0, &mut page);
-    finish(end, &mut page);
-}
-
-// A number, and then others.
-pub fn say(first: u64, rest: &[u64]) {
-    let mut page = io::buffer();
-    let mut end = put(first, 0, &mut page);
-    for i in 0..rest.len() {
-        end = put(rest[i], end, &mut page);
-    }
-    finish(end, &mut page);
-}
-
-fn wide_byte(byte: u8) -> u64 {
-    byte as u64
-}
-
-// A number, and then bytes.
-pub fn say_bytes(first: u64, bytes: &[u8]) {
-    let mut page = io::buffer();
-    let mut end = put(first, 0, &mut page);
-    for i in 0..bytes.len() {
-        end = put(wide_byte(bytes[i]), end, &mut page);
-    }
-    finish(end, &mut page);
-}
-
-fn wide(place: u32) -> u64 {
-    place as u64
-}
-
-// Two numbers, and then what places of 32 bits hold.
-pub fn say_places(first: u64, second: u64, places: &[u32]) {
-    let mut page = io::buffer();
-    let mut end = put(first, 0, &mut page);
-    end = put(second, end, &mut page);
-    for i in 0..places.len() {
-        end = put(wide(places[i]), end, &mut page);
-    }
-    finish(end, &mut page);
 }

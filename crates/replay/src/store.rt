@@ -1,86 +1,71 @@
 // What is told to a blocked store, and what is asked of the whole of it.
-use crate::say::{say, say_one};
-use crate::state::State;
+use crate::say::{number_of, say};
 use blocked_bitpacker::{BlockedBitpacker, Stored};
 use refusal::Refusal;
 
-// 0, or the number of the refusal.
-fn number_of(done: Result<(), Refusal>) -> u64 {
-    match done {
-        Ok(()) => 0,
-        Err(why) => why.number() as u64,
-    }
+// The store goes on as the call left it. Answered by 0, since no value was accepted, and by 0 or the number of the
+// refusal.
+fn go_on(store: &mut BlockedBitpacker, rt: &impl Print, port: Stored) {
+    *store = port.store;
+    say(rt, &[0, number_of(port.done)]);
 }
 
-// Says how many values were accepted and 0 or the number of the refusal that ended it; answers the store.
-fn said(accepted: usize, port: Stored) -> BlockedBitpacker {
-    let done = port.done;
-    say(accepted as u64, &[number_of(done)]);
-    let store = port.store;
-    store
+pub fn make(store: &mut BlockedBitpacker, rt: &impl Print, bytes: &mut [u8]) {
+    go_on(store, rt, BlockedBitpacker::new(bytes));
 }
 
-// Adds the values up to the first that is refused.
+pub fn flush(store: &mut BlockedBitpacker, rt: &impl Print, bytes: &mut [u8], entries: &mut [u64]) {
+    let port = store.flush(bytes, entries);
+    go_on(store, rt, port);
+}
+
+// Adds the values up to the first that is refused, and answers how many were accepted.
 fn add_each(
-    before: BlockedBitpacker,
+    store: &mut BlockedBitpacker,
     values: &[u64],
     bytes: &mut [u8],
     entries: &mut [u64],
-) -> BlockedBitpacker {
-    let mut store = before;
-    for i in 0..values.len() {
-        let port = store.add(values[i], bytes, entries);
-        store = port.store;
-        let done = port.done;
-        let refusal = number_of(done);
-        if refusal > 0 {
-            say(i as u64, &[refusal]);
-            return store;
+) -> (usize, Result<(), Refusal>) {
+    for (accepted, value) in values.iter().enumerate() {
+        let port = store.add(*value, bytes, entries);
+        *store = port.store;
+        if let Err(why) = port.done {
+            return (accepted, Err(why));
         }
     }
-    say(values.len() as u64, &[0]);
-    store
+    (values.len(), Ok(()))
 }
 
-// A making, values to add, or a flush.
-pub fn change(
-    state: State,
-    kind: u64,
-    step: &[u64],
+// Answered by how many values were accepted, and 0 or the number of the refusal that ended it.
+pub fn add(
+    store: &mut BlockedBitpacker,
+    rt: &impl Print,
+    values: &[u64],
     bytes: &mut [u8],
     entries: &mut [u64],
-) -> State {
-    let before = state.store;
-    if kind == 0 {
-        return state.with_store(said(0, BlockedBitpacker::new(bytes)));
-    }
-    if kind == 1 {
-        return state.with_store(add_each(before, step, bytes, entries));
-    }
-    state.with_store(said(0, before.flush(bytes, entries)))
+) {
+    let (accepted, port) = add_each(store, values, bytes, entries);
+    say(rt, &[accepted as u64, number_of(port)]);
 }
 
 // Answered by 0 and the count, or the number of the refusal.
-pub fn count(store: BlockedBitpacker, bytes: &[u8], entries: &[u64]) {
-    match store.count(bytes, entries) {
-        Ok(n) => say(0, &[n as u64]),
-        Err(why) => say_one(why.number() as u64),
+pub fn count(store: &BlockedBitpacker, rt: &impl Print, bytes: &[u8], entries: &[u64]) {
+    let port = store.count(bytes, entries);
+    match port {
+        Ok(count) => say(rt, &[0, count as u64]),
+        Err(_) => say(rt, &[number_of(port)]),
     }
 }
 
 // The fields that are numbers, `USED BLOCKS WAITING LAST_LENGTH`.
-pub fn fields(store: BlockedBitpacker) {
+pub fn fields(store: &BlockedBitpacker, rt: &impl Print) {
     say(
-        store.used as u64,
+        rt,
         &[
+            store.used as u64,
             store.blocks as u64,
             store.waiting as u64,
             store.last_length as u64,
         ],
     );
-}
-
-pub fn waiting(store: BlockedBitpacker) {
-    let buffer = store.buffer;
-    say(0, &buffer);
 }
