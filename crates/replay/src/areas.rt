@@ -9,23 +9,18 @@ const BYTES: usize = 32768;
 
 const ENTRIES: usize = 256;
 
-// What every place holds before the port writes to it, and every byte of a wider one.
-pub(crate) fn numbers() -> [u64; ROOM]
-    ensures { 8192 ≡ length result }
-{
-    [0xa5a5_a5a5_a5a5_a5a5; ROOM]
-}
+// What every place holds before the port writes to it: of 64 bits, of 32, and of 8.
+pub(crate) const WORD: u64 = 0xa5a5_a5a5_a5a5_a5a5;
 
-pub(crate) fn positions() -> [u32; ROOM]
-    ensures { 8192 ≡ length result }
-{
-    [0xa5a5_a5a5; ROOM]
-}
+pub(crate) const POSITION: u32 = 0xa5a5_a5a5;
 
-pub(crate) fn floats() -> [f64; ROOM]
+const BYTE: u8 = 0xa5;
+
+// Room for an answer.
+pub(crate) fn room<T: Copy>(value: T) -> [T; ROOM]
     ensures { 8192 ≡ length result }
 {
-    [0.0; ROOM]
+    [value; ROOM]
 }
 
 // The bytes and the entry words, and how many of each are to be lent, which may be more than there are.
@@ -40,9 +35,9 @@ pub(crate) struct Areas {
 impl Areas {
     pub(crate) fn new() -> Areas {
         Areas {
-            bytes: [0xa5; BYTES],
+            bytes: [BYTE; BYTES],
             byte_room: 0,
-            entries: [0xa5a5_a5a5_a5a5_a5a5; ENTRIES],
+            entries: [WORD; ENTRIES],
             entry_room: 0,
         }
     }
@@ -71,7 +66,7 @@ impl Areas {
 }
 
 // So many elements at the start, or all.
-fn front<T, const N: usize>(area: &mut [T; N], room: u64) -> &mut [T] {
+pub(crate) fn front<T, const N: usize>(area: &mut [T; N], room: u64) -> &mut [T] {
     let all = &mut area[..];
     let end = within(room, all.len());
     &mut all[..end]

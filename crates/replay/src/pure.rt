@@ -1,6 +1,6 @@
 // What is asked of values alone.
 use crate::areas;
-use crate::areas::within;
+use crate::areas::front;
 use crate::line::{first, low_u32};
 use crate::say::{say, say_area};
 
@@ -50,8 +50,8 @@ fn patterns_of(port: Option<(f64, f64)>) -> Option<(u64, u64)> {
 
 // The same of floats with these patterns.
 pub fn minmax_of_patterns(rt: &impl Print, patterns: &[u64]) {
-    let mut room = areas::floats();
-    let floats = &mut room[..within(patterns.len() as u64, areas::ROOM)];
+    let mut room = areas::room(0.0);
+    let floats = front(&mut room, patterns.len() as u64);
     for (float, pattern) in floats.iter_mut().zip(patterns) {
         *float = float_of(*pattern);
     }
@@ -71,8 +71,8 @@ pub fn filter(rt: &impl Print, step: &[u64]) {
         say(rt, &[0xbad]);
         return;
     };
-    let mut room = areas::positions();
-    let places = &mut room[..within(values.len() as u64, areas::ROOM)];
+    let mut room = areas::room(areas::POSITION);
+    let places = front(&mut room, values.len() as u64);
     narrow(values, places);
     let found = filter_vec::filter_vec_in_place(
         low_u32(*lo),

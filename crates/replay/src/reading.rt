@@ -2,7 +2,7 @@
 ghost use Rattle.std.specs.Prelude.{◌≤◌, length};
 
 use crate::areas;
-use crate::areas::within;
+use crate::areas::front;
 use crate::line::{first, low_u32};
 use crate::say::{number_of, say_area};
 use bitunpacker::BitUnpacker;
@@ -122,8 +122,8 @@ fn get_each(column: &impl Column, start: u64, values: &mut [u64]) -> (usize, Res
 // of the refusal, and by the values.
 fn each(rt: &impl Print, column: &impl Column, step: &[u64]) {
     let [start, count] = first::<2>(step);
-    let mut room = areas::numbers();
-    let values = &mut room[..within(count, areas::ROOM)];
+    let mut room = areas::room(areas::WORD);
+    let values = front(&mut room, count);
     let (read, port) = get_each(column, start, values);
     say_area(rt, &[number_of(port)], &values[..read]);
 }
@@ -132,8 +132,8 @@ fn each(rt: &impl Print, column: &impl Column, step: &[u64]) {
 // then is.
 fn range(rt: &impl Print, column: &impl Column, step: &[u64]) {
     let [start, count] = first::<2>(step);
-    let mut room = areas::numbers();
-    let output = &mut room[..within(count, areas::ROOM)];
+    let mut room = areas::room(areas::WORD);
+    let output = front(&mut room, count);
     let port = column.get_range(start, output);
     say_area(rt, &[number_of(port)], output);
 }
@@ -142,8 +142,8 @@ fn range(rt: &impl Print, column: &impl Column, step: &[u64]) {
 // ids there are, and by every position that was lent.
 fn search(rt: &impl Print, column: &impl Column, step: &[u64]) {
     let [lo, hi, start, end, count] = first::<5>(step);
-    let mut room = areas::positions();
-    let positions = &mut room[..within(count, areas::ROOM)];
+    let mut room = areas::room(areas::POSITION);
+    let positions = front(&mut room, count);
     let port = column.search(lo, hi, low_u32(start), low_u32(end), positions);
     say_area(rt, &[number_of(port), port.unwrap_or(0) as u64], positions);
 }
