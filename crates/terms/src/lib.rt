@@ -14,7 +14,7 @@ use std::num::wrapping_add_usize;
 
 // What stops a loading: a line that is no number, or a number that the store refuses; at the end of the text, a last
 // line without its line end, which may have been cut, or that there is no line at all.
-#[derive(Clone, Copy)]
+#[derive(Clone, Copy, Debug, PartialEq, Eq)]
 pub enum Trouble {
     NotANumber(NumeralError),
     Refused(Refusal),
@@ -39,7 +39,8 @@ impl From<Refusal> for Trouble {
 }
 
 // The store so far, how many lines were added to it, modulo 2^64, what is known of the line that goes on,
-// and what stopped it, if anything did.
+// and what stopped it, if anything did. The store's two areas stay the caller's, and are lent to each call
+// beside it.
 #[derive(Clone, Copy)]
 pub struct Loading {
     pub store: BlockedBitpacker,
