@@ -3,7 +3,6 @@ ghost use Rattle.std.specs.Prelude.{◌≡◌, ◌+◌, ◌%◌, ◌^◌, Option
 ghost use Rattle.decimal.specs.Line.{line_of, new_line, wrong_line, cr_line, byte_of, ended_of};
 
 use crate::{NumeralError, append};
-use std::num::wrapping_add_usize;
 
 // How many digits the line starts with, modulo 2^64, and the number that they stand for, unless it is too
 // large; whether a carriage return follows them; and the first byte that may not stand where it does, if any.
@@ -54,7 +53,7 @@ impl Line {
         ensures { result ≡ line_of ((self.digits + 1) % 2 ^ 64) value false None }
     {
         Line {
-            digits: wrapping_add_usize(self.digits, 1),
+            digits: self.digits.wrapping_add(1),
             value,
             after_cr: false,
             wrong: None,

@@ -10,7 +10,6 @@ ghost use Rattle.terms.specs.Loading.{nothing_read, add_line_of, stopped_by, add
 use blocked_bitpacker::{BlockedBitpacker, Stored};
 use decimal::{Line, NumeralError};
 use refusal::Refusal;
-use std::num::wrapping_add_usize;
 
 // What stops a loading: a line that is no number, or a number that the store refuses; at the end of the text, a last
 // line without its line end, which may have been cut, or that there is no line at all.
@@ -122,7 +121,7 @@ impl Loading {
         match stored.done {
             Ok(()) => Loading {
                 store: stored.store,
-                lines: wrapping_add_usize(self.lines, 1),
+                lines: self.lines.wrapping_add(1),
                 line: Line::new(),
                 trouble: None,
             },
