@@ -1,51 +1,41 @@
--- What the three calls come to: a value through a packer of 64 bits, a read by what `new` and `get` answer, and a list past its checks.
+-- What the three calls come to: a value's eight bytes, a read by what `new` and `get` answer, and a list past its checks.
 use Rattle.std.specs.Prelude.{Ok, Err, Result}
+use Rattle.std.specs.Int.{to_le_bytes, w64}
+use Rattle.std.specs.Simd.{first_chunks}
 use mathlib.Core.Path.{◌≡◌, refl, sym, ap, ap₂, ◌∙◌}
-use mathlib.Core.Logic.{⊎_elim}
 use mathlib.Core.Bool.{Bool, true, false, not, cond}
 use mathlib.Core.List.{List, ◌++◌}
-use Prim.Native.Nat.{ℕ, ◌+◌, ◌*◌, ◌/◌, ◌%◌, ◌^◌, ◌≤◌, ◌<◌}
+use Prim.Native.Nat.{ℕ, ◌*◌, ◌/◌, ◌%◌, ◌≤◌, ◌<◌}
 use native.Mathlib.Omega.{arith}
+use lib.Dec.{eqb}
 use lib.ListN.{length, drop}
-use borrow.Author.Tests.{le-ltb, lt-ltb, lt-leb, le-leb, eq-eqb, ne_eqb}
-use Rattle.bit_rule.specs.Bytes.{bytes_of, bytes_for}
+use borrow.Author.Tests.{le-ltb, lt-ltb, lt-leb, le-leb, eq-eqb}
+use Rattle.bit_rule.specs.Bytes.{AreBytes, bytes_for}
 use Rattle.bit_rule.specs.Stream.{of_width, stream_bytes}
 use Rattle.bit_rule.specs.Place.{value_at, lies_in}
-use Rattle.bit_rule.proofs.Bytes.{length-bytes_of}
+use Rattle.bit_rule.proofs.Bytes.{length-bytes_of, word_bytes}
 use Rattle.bit_rule.proofs.Stream.{length-stream_bytes}
-use Rattle.bit_rule.proofs.Width.{le_or_lt}
 use Rattle.refusal.specs.declared.Refusal.{Refusal}
 use Rattle.refusal.specs.declared.Refusal.TheVariants.{BadWidth, TooWide, OutOfData, NoRoom}
-use Rattle.refusal.specs.Number.{number_of}
-use Rattle.bitpacker.specs.declared.Written.{Written}
-use Rattle.bitpacker.specs.Packer.{fresh, damaged_packer, written, write_of, emitting}
 use Rattle.bitpacker.proofs.Run.{packed}
 use Rattle.bitunpacker.specs.declared.BitUnpacker.{BitUnpacker}
 use Rattle.bitunpacker.specs.Unpacker.{mask_of, new_of, get_of}
 use Rattle.block.proofs.Reading.{new_says}
 use Rattle.stumpvessel.specs.Host.{Answered, answered, refuses, words_of, any_too_wide, pack_list_of, put_of, read_of}
-use Rattle.stumpvessel.proofs.Words.{length-words_of}
+use Rattle.stumpvessel.proofs.Words.{numbers_of, length-numbers_of, chunks_are_words}
 
--- ---- a value of 64 bits
+-- ---- a value's eight bytes
 
-abbrev number_in : Result Written Refusal → ℕ
-number_in (emitting p n) = 0
-number_in (Err why) = number_of why
+module _ (v : ℕ) (out : List ℕ) where
+  pub put_short : length out < 8 → refuses NoRoom out ≡ put_of v out
+  unfolding put_of
+  put_short short = simp (lt-ltb (length out) 8 short)
 
-abbrev pub numbered : Result Written Refusal → List ℕ → Answered
-numbered r out = answered (number_in r) out
-
--- a packer that holds nothing emits all of it at once
-pub put_law : (v : ℕ) (out : List ℕ) → v < 2 ^ 64 → numbered (write_of fresh v 64 out).answer (write_of fresh v 64 out).output ≡ put_of v out
-unfolding write_of written damaged_packer put_of
-put_law v out word =
-    let whole : 0 + v * 2 ^ 0 ≡ v = omega arith in
-    simp (lt-leb (2 ^ 64) v word)
-    (⊎_elim
-    (λ room.
-    simp (le-ltb (length out) 8 room)
-    (ap (answered 0) (ap₂ (λ x n. bytes_of 8 x ++ drop n out) whole (sym (length-bytes_of 8 v)))))
-    (λ short. simp (lt-ltb (length out) 8 short)) (le_or_lt 8 (length out)))
+  pub put_done : (word : List ℕ) → word ≡ to_le_bytes w64 v → 8 ≤ length out → answered 0 (word ++ drop 8 out) ≡ put_of v out
+  unfolding put_of
+  put_done word is room =
+      simp (le-ltb (length out) 8 room)
+      (ap₂ (λ l n. answered 0 (l ++ drop n out)) (is ∙ word_bytes v) (sym (length-bytes_of 8 v)))
 
 -- ---- a read
 
@@ -80,27 +70,37 @@ module _ (list : List ℕ) (w : ℕ) (out : List ℕ) where
   unfolding pack_list_of
   pack_bad_width wide = simp (lt-leb w 64 wide)
 
-  module _ (narrow : w ≤ 64) where
-    pub pack_odd : (length list % 8 ≡ 0 → ⊥) → refuses OutOfData out ≡ pack_list_of list w out
+  module _ (narrow : w ≤ 64) {rest : ℕ} (left : rest ≡ length list % 8) where
+    pub pack_odd : eqb rest 0 ≡ false → refuses OutOfData out ≡ pack_list_of list w out
     unfolding pack_list_of
-    pack_odd odd = simp (le-leb w 64 narrow, ne_eqb (length list % 8) 0 odd)
+    pack_odd odd = simp (le-leb w 64 narrow, ap (λ n. eqb n 0) (sym left) ∙ odd)
 
-    module _ (even : length list % 8 ≡ 0) where
-      pub pack_too_wide : any_too_wide w (words_of list) ≡ true → refuses TooWide out ≡ pack_list_of list w out
+    module _ (none_left : eqb rest 0 ≡ true) (bytes : AreBytes list) {chunks : List (List ℕ)} (taken : chunks ≡ first_chunks 8 (length list / 8) list) where
+      even : eqb (length list % 8) 0 ≡ true
+      even = ap (λ n. eqb n 0) (sym left) ∙ none_left
+
+      words : numbers_of chunks ≡ words_of list
+      words = ap numbers_of taken ∙ chunks_are_words list bytes
+
+      pub pack_too_wide : any_too_wide w (numbers_of chunks) ≡ true → refuses TooWide out ≡ pack_list_of list w out
       unfolding pack_list_of
-      pack_too_wide wide = simp (le-leb w 64 narrow, eq-eqb (length list % 8) 0 even, wide)
+      pack_too_wide wide = simp (le-leb w 64 narrow, even, ap (any_too_wide w) (sym words) ∙ wide)
 
-      module _ (fit : any_too_wide w (words_of list) ≡ false) where
-        needed : bytes_for (length (words_of list) * w) ≡ bytes_for (length list / 8 * w)
-        needed = ap (λ n. bytes_for (n * w)) (length-words_of list)
+      module _ (none_wide : any_too_wide w (numbers_of chunks) ≡ false) {size : ℕ} (sized : size ≡ bytes_for (length chunks * w)) where
+        fit : any_too_wide w (words_of list) ≡ false
+        fit = ap (any_too_wide w) (sym words) ∙ none_wide
 
-        pub pack_no_room : length out < bytes_for (length list / 8 * w) → refuses NoRoom out ≡ pack_list_of list w out
+        needed : bytes_for (length (words_of list) * w) ≡ size
+        needed = ap (λ n. bytes_for (n * w)) (ap length (sym words) ∙ length-numbers_of chunks) ∙ sym sized
+
+        pub pack_no_room : length out < size → refuses NoRoom out ≡ pack_list_of list w out
         unfolding pack_list_of
         pack_no_room short =
-            simp (le-leb w 64 narrow, eq-eqb (length list % 8) 0 even, fit, lt-ltb (length out) (bytes_for (length (words_of list) * w)) (omega (arith, needed)))
+            simp (le-leb w 64 narrow, even, fit, lt-ltb (length out) (bytes_for (length (words_of list) * w)) (omega (arith, needed)))
 
-        pub pack_done : bytes_for (length list / 8 * w) ≤ length out → answered 0 (packed (of_width w (words_of list)) out) ≡ pack_list_of list w out
+        pub pack_done : size ≤ length out → answered 0 (packed (of_width w (numbers_of chunks)) out) ≡ pack_list_of list w out
         unfolding pack_list_of
         pack_done room =
-            simp (le-leb w 64 narrow, eq-eqb (length list % 8) 0 even, fit, le-ltb (length out) (bytes_for (length (words_of list) * w)) (omega (arith, needed)))
+            ap (λ vs. answered 0 (packed (of_width w vs) out)) words
+            ∙ simp (le-leb w 64 narrow, even, fit, le-ltb (length out) (bytes_for (length (words_of list) * w)) (omega (arith, needed)))
             (ap (λ n. answered 0 (stream_bytes (of_width w (words_of list)) ++ drop n out)) (sym (length-stream_bytes (of_width w (words_of list)))))

@@ -1,7 +1,7 @@
 -- Document 01: "From C, list (little-endian 8-byte words) at one width: 1, 3, 2, 4, output then holds the stream. Single read: 1, 3, 4,
 -- output's first eight bytes hold the value, least byte first. Both answer 0 for success and leave the output's later bytes unchanged. The
 -- width call refuses nothing and answers the width."
-use Rattle.std.specs.Prelude.{ℕ, ◌*◌, ◌/◌, ◌%◌, ◌^◌, Bool, false, not, ◌||◌, List, [], ◌∷◌, leb, ltb, eqb, length}
+use Rattle.std.specs.Prelude.{ℕ, ◌*◌, ◌/◌, ◌%◌, ◌^◌, Bool, false, not, ◌||◌, List, [], ◌∷◌, leb, ltb, eqb, length, Ok, Err, Result}
 use Rattle.bit_rule.specs.Bytes.{bytes_of, bytes_for}
 use Rattle.bit_rule.specs.Stream.{of_width, stream_bytes}
 use Rattle.bit_rule.specs.Place.{value_at, lies_in, values_from}
@@ -19,6 +19,11 @@ pub record Answered : Type 0 where
 
 abbrev pub answered : ℕ → List ℕ → Answered
 answered number output = record { number = number; output = output }
+
+-- "Both answer 0 for success", and for a refusal its number.
+abbrev pub status_of : Result (Unit {0}) Refusal → ℕ
+status_of (Ok _) = 0
+status_of (Err why) = number_of why
 
 -- "A refusal returns its number and nothing else"; the output stays as it was.
 abbrev pub refuses : Refusal → List ℕ → Answered

@@ -2,18 +2,29 @@
 // answers 0, or the number of a refusal, and then has written nothing.
 #![tactic(auto)]
 
-ghost use Rattle.std.specs.Prelude.{◌≡◌, ◌+◌, ◌*◌, ◌/◌, ◌%◌, ◌^◌, ◌≤◌, ◌<◌, false, length};
+ghost use Rattle.std.specs.Prelude.{◌≡◌, ◌*◌, ◌≤◌, ◌<◌, ◌^◌, false, length, map};
+ghost use Rattle.std.specs.Int.{from_le_bytes, w64};
 ghost use Rattle.bit_rule.specs.Bytes.{bytes_for};
 ghost use Rattle.bit_rule.specs.Stream.{of_width};
-ghost use Rattle.bit_rule.specs.Place.{value_at};
 ghost use Rattle.bit_rule.specs.Width.{width_of};
 ghost use Rattle.bitpacker.proofs.Run.{packed};
-ghost use Rattle.stumpvessel.specs.Host.{answered, words_of, any_too_wide, pack_list_of, put_of, read_of};
+ghost use Rattle.stumpvessel.specs.Host.{answered, status_of, any_too_wide, pack_list_of, put_of, read_of};
 
+use bit_rule::column_bytes;
 use bitpacker::{BitPacker, exceeds};
 use bitunpacker::BitUnpacker;
 use num_bits::compute_num_bits;
 use refusal::Refusal;
+
+// What C is answered: 0, or the number of the refusal.
+fn status(answer: Result<(), Refusal>) -> u8
+    ensures { result ≡ status_of answer }
+{
+    match answer {
+        Ok(()) => 0,
+        Err(why) => why.number(),
+    }
+}
 
 // The width of an amplitude.
 #[unsafe(no_mangle)]
@@ -23,67 +34,49 @@ pub extern "C" fn stumpvessel_width(amplitude: u64) -> u8
     compute_num_bits(amplitude)
 }
 
-// The word at an index of a list: the value of 64 bits there.
-fn word_at(list: &[u8], i: usize) -> u64
-    requires { 8 * (i + 1) ≤ length list.now }
-    ensures { result ≡ value_at 64 i list.now }
+// Whether one of the words does not fit the width.
+fn has_too_wide(words: &[[u8; 8]], width: u8) -> bool
+    ensures { result ≡ any_too_wide width (map (from_le_bytes w64) words.now) }
 {
-    let at = 8 * i;
-    match BitUnpacker::new(64) {
-        Ok(unpacker) => match unpacker.get(0, &list[at..]) {
-            Ok(word) => word,
-            Err(_) => 0,
-        },
-        Err(_) => 0,
-    }
+    words.iter().any(|word| exceeds(u64::from_le_bytes(*word), usize::from(width)))
 }
 
-// Whether a word of the list does not fit the width.
-fn has_too_wide(list: &[u8], width: u8) -> bool
-    ensures { result ≡ any_too_wide width (words_of list.now) }
+// Packs the words at the start of the output.
+fn pack(words: &[[u8; 8]], width: u8, output: &mut [u8])
+    requires width_bound { (width ≤ 64) × (any_too_wide width (map (from_le_bytes w64) words.now) ≡ false) }
+    requires width_in_bounds { bytes_for (length words.now * width) ≤ length output.old }
+    ensures { output.new ≡ packed (of_width width (map (from_le_bytes w64) words.now)) output.old }
 {
-    let words = list.len() / 8;
-    let mut i = 0;
-    while i < words {
-        if exceeds(word_at(list, i), width as usize) {
-            return true;
-        }
-        i += 1;
-    }
-    false
-}
-
-// ceil(n*w/8), for every number of words that a slice of bytes can have: n * w itself could wrap.
-fn bytes_needed(n: usize, width: usize) -> usize
-    requires { (n < 2 ^ 61) × (width ≤ 64) }
-    ensures { result ≡ bytes_for (n * width) }
-{
-    n / 8 * width + (n % 8 * width + 7) / 8
-}
-
-// Packs the list's words at the start of the output.
-fn pack(list: &[u8], width: u8, output: &mut [u8])
-    requires width_bound { (width ≤ 64) × (any_too_wide width (words_of list.now) ≡ false) }
-    requires width_in_bounds { bytes_for (length list.now / 8 * width) ≤ length output.old }
-    ensures { output.new ≡ packed (of_width width (words_of list.now)) output.old }
-{
-    let count = list.len() / 8;
     let mut packer = BitPacker::new();
     let mut at = 0;
-    let mut i = 0;
-    while i < count {
-        match packer.write(word_at(list, i), width, &mut output[at..]) {
-            Ok(written) => {
-                packer = written.packer;
-                at = at + written.emitted;
-            }
-            Err(_) => {
-                return;
-            }
-        }
-        i += 1;
+    for word in words {
+        let written = packer
+            .write(u64::from_le_bytes(*word), width, &mut output[at..])
+            .unwrap();
+        packer = written.packer;
+        at += written.emitted;
     }
     let _ = packer.flush(&mut output[at..]);
+}
+
+fn pack_list(list: &[u8], width: u8, output: &mut [u8]) -> Result<(), Refusal>
+    ensures { answered (status_of result) output.new ≡ pack_list_of list.now width output.old }
+{
+    if 64 < width {
+        return Err(Refusal::BadWidth);
+    }
+    let (words, rest) = list.as_chunks::<8>();
+    if !rest.is_empty() {
+        return Err(Refusal::OutOfData);
+    }
+    if has_too_wide(words, width) {
+        return Err(Refusal::TooWide);
+    }
+    if output.len() < column_bytes(words.len(), usize::from(width)) {
+        return Err(Refusal::NoRoom);
+    }
+    pack(words, width, output);
+    Ok(())
 }
 
 // Packs a list of words of eight bytes, least byte first, at one width.
@@ -91,30 +84,25 @@ fn pack(list: &[u8], width: u8, output: &mut [u8])
 pub extern "C" fn stumpvessel_pack(list: &[u8], width: u8, output: &mut [u8]) -> u8
     ensures { answered result output.new ≡ pack_list_of list.now width output.old }
 {
-    if 64 < width {
-        return Refusal::BadWidth.number();
-    }
-    if list.len() % 8 != 0 {
-        return Refusal::OutOfData.number();
-    }
-    if has_too_wide(list, width) {
-        return Refusal::TooWide.number();
-    }
-    if output.len() < bytes_needed(list.len() / 8, width as usize) {
-        return Refusal::NoRoom.number();
-    }
-    pack(list, width, output);
-    0
+    status(pack_list(list, width, output))
 }
 
 // Puts a value into the output's first eight bytes, least byte first.
-fn put(value: u64, output: &mut [u8]) -> u8
-    ensures { answered result output.new ≡ put_of value output.old }
+fn put(value: u64, output: &mut [u8]) -> Result<(), Refusal>
+    ensures { answered (status_of result) output.new ≡ put_of value output.old }
 {
-    match BitPacker::new().write(value, 64, output) {
-        Ok(_) => 0,
-        Err(why) => why.number(),
+    if output.len() < 8 {
+        return Err(Refusal::NoRoom);
     }
+    output[..8].copy_from_slice(&value.to_le_bytes());
+    Ok(())
+}
+
+fn read(data: &[u8], width: u8, index: u32, output: &mut [u8]) -> Result<(), Refusal>
+    ensures { answered (status_of result) output.new ≡ read_of «data».now width index output.old }
+{
+    let value = BitUnpacker::new(width)?.get(index, data)?;
+    put(value, output)
 }
 
 // Reads the value at an index of a column into the output's first eight bytes, least byte first.
@@ -122,11 +110,5 @@ fn put(value: u64, output: &mut [u8]) -> u8
 pub extern "C" fn stumpvessel_read(data: &[u8], width: u8, index: u32, output: &mut [u8]) -> u8
     ensures { answered result output.new ≡ read_of «data».now width index output.old }
 {
-    match BitUnpacker::new(width) {
-        Err(why) => why.number(),
-        Ok(unpacker) => match unpacker.get(index, data) {
-            Err(why) => why.number(),
-            Ok(value) => put(value, output),
-        },
-    }
+    status(read(data, width, index, output))
 }
