@@ -41,7 +41,8 @@ fn has_too_wide(words: &[[u8; 8]], width: u8) -> bool
     words.iter().any(|word| exceeds(u64::from_le_bytes(*word), usize::from(width)))
 }
 
-// Packs the words at the start of the output.
+// Packs the words at the start of the output, as `block` packs its values. A word is read as it is packed:
+// without a heap there is nowhere to put all of them, and one function for both would need a closure.
 fn pack(words: &[[u8; 8]], width: u8, output: &mut [u8])
     requires width_bound { (width ≤ 64) × (any_too_wide width (map (from_le_bytes w64) words.now) ≡ false) }
     requires width_in_bounds { bytes_for (length words.now * width) ≤ length output.old }
@@ -59,6 +60,7 @@ fn pack(words: &[[u8; 8]], width: u8, output: &mut [u8])
     let _ = packer.flush(&mut output[at..]);
 }
 
+// What `stumpvessel_pack` does, with the refusal in place of its number.
 fn pack_list(list: &[u8], width: u8, output: &mut [u8]) -> Result<(), Refusal>
     ensures { answered (status_of result) output.new ≡ pack_list_of list.now width output.old }
 {
@@ -98,6 +100,7 @@ fn put(value: u64, output: &mut [u8]) -> Result<(), Refusal>
     Ok(())
 }
 
+// What `stumpvessel_read` does, with the refusal in place of its number.
 fn read(data: &[u8], width: u8, index: u32, output: &mut [u8]) -> Result<(), Refusal>
     ensures { answered (status_of result) output.new ≡ read_of «data».now width index output.old }
 {
