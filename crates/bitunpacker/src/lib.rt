@@ -7,11 +7,12 @@ mod bits;
 mod column;
 mod search;
 
-ghost use Rattle.std.specs.Prelude.{◌≡◌, true, ◌+◌, ◌*◌, ◌%◌, ◌^◌, ◌≤◌, ◌<◌, length, IfOk};
+ghost use Rattle.std.specs.Prelude.{◌≡◌, true, ◌+◌, ◌*◌, ◌%◌, ◌^◌, ◌≤◌, ◌<◌, length, IfOk, MatchResult};
 ghost use Rattle.bit_rule.specs.Width.{legal_width};
 ghost use Rattle.bit_rule.specs.Place.{values_from};
 ghost use Rattle.bitunpacker.specs.Parts.{checked};
-ghost use Rattle.bitunpacker.specs.Unpacker.{mask_of, Sound, new_of, get_of, range, get_range_of, search, search_of};
+ghost use Rattle.bitunpacker.specs.Roads.{IsColumnOf};
+ghost use Rattle.bitunpacker.specs.Unpacker.{mask_of, out_of_data, Sound, new_of, get_of, range, get_range_of, search, search_of};
 
 use bit_rule::column_bytes;
 use bits::{mask_of, tail_at, word_at};
@@ -77,6 +78,22 @@ impl BitUnpacker {
         Ok(())
     }
 
+    // The first so many values of the data, which has to hold them.
+    fn column<'a>(self, data: &'a [u8], count: usize) -> Result<Column<'a>, Refusal>
+        requires sound { Sound self }
+        requires few { count < 2 ^ 61 }
+        ensures { MatchResult result (λ column. IsColumnOf self «data».now count column) (λ refusal. (refusal ≡ Refusal.OutOfData) × (out_of_data self count «data».now ≡ true)) }
+    {
+        if data.len() < column_bytes(count, self.num_bits) {
+            return Err(Refusal::OutOfData);
+        }
+        Ok(Column {
+            unpacker: self,
+            bytes: data,
+            count,
+        })
+    }
+
     // The value at an index of the data.
     #[tactic(auto, using(crate::proofs::Laws::index_fits))]
     pub fn get(self, idx: u32, data: &[u8]) -> Result<u64, Refusal>
@@ -105,15 +122,7 @@ impl BitUnpacker {
             return Ok(());
         }
         let start = start_idx as usize;
-        let count = start + output.len();
-        if data.len() < column_bytes(count, self.num_bits) {
-            return Err(Refusal::OutOfData);
-        }
-        let column = Column {
-            unpacker: self,
-            bytes: data,
-            count,
-        };
+        let column = self.column(data, start + output.len())?;
         column.fill(start, output);
         Ok(())
     }
@@ -135,18 +144,10 @@ impl BitUnpacker {
         if end <= start {
             return Ok(0);
         }
-        let count = end as usize;
-        if data.len() < column_bytes(count, self.num_bits) {
-            return Err(Refusal::OutOfData);
-        }
+        let column = self.column(data, end as usize)?;
         if positions.len() < (end - start) as usize {
             return Err(Refusal::NoRoom);
         }
-        let column = Column {
-            unpacker: self,
-            bytes: data,
-            count,
-        };
         let interval = Interval { lo, hi };
         Ok(column.find(interval, start, end, positions))
     }
