@@ -11,8 +11,7 @@ use Rattle.bit_rule.specs.Place.{value_at}
 use Rattle.bit_rule.proofs.Width.{width_of_legal, legal_le}
 use Rattle.bit_rule.proofs.Stream.{total_bits-of_width, length-stream_bytes}
 use Rattle.bit_rule.proofs.Place.{read_column, value_at-append}
-use Rattle.std.specs.declared.option.Option.{Option}
-use Rattle.std.specs.Prelude.{Some, None}
+use Rattle.std.specs.Prelude.{Option, Some, None}
 use Rattle.num_bits.specs.MinMax.{minmax_u64}
 use Rattle.num_bits.proofs.Bounds.{minmax_bounds}
 use Rattle.block.specs.Block.{base_of, block_width, differences, block_size, block_bytes, words_per_entry, entry_words, entry_offset, entry_width, entry_base, damaged_entry, above_base, block_value}

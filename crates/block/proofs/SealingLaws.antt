@@ -1,7 +1,7 @@
 -- Sealing a block: its differences fit the width of its extent, the size is that of its packed bytes, and the bytes with eight zeros after
 -- them stand at the start of the part.
-use Rattle.std.specs.Prelude.{Err}
-use Rattle.std.proofs.Common.{◌≡◌, ℕ, suc, ◌+◌, ◌-◌, ◌*◌, ◌^◌, ◌<◌, ◌≤◌, cond, List, [], ◌∷◌, ◌++◌, length, get_or, drop, sym, refl, ap, ◌∙◌, subst, ap₂, append_assoc, zero-le, not-suc-le-zero, lt_of_le_of_lt, arith, length-append, length-drop, drop-drop, take_at, drop_at, le-ltb, lt-ltb, le-leb}
+use Rattle.std.specs.Prelude.{Err, Option, Some, None, unwrap_or}
+use Rattle.std.proofs.Common.{◌≡◌, ℕ, suc, ◌+◌, ◌-◌, ◌*◌, ◌^◌, ◌<◌, ◌≤◌, cond, ltb, List, [], ◌∷◌, ◌++◌, length, get_or, drop, sym, refl, ap, ◌∙◌, subst, ap₂, append_assoc, zero-le, not-suc-le-zero, lt_of_le_of_lt, arith, length-append, length-drop, drop-drop, take_at, drop_at, le-ltb, lt-ltb, le-leb}
 use borrow.Author.Tests.{lt-leb}
 use lib.ListN.{length-map}
 use borrow.Rule.Slice.PartMut.{put_mid}
@@ -12,8 +12,9 @@ use Rattle.bit_rule.specs.Width.{width_of}
 use Rattle.bit_rule.proofs.Stream.{total_bits-of_width, length-stream_bytes}
 use Rattle.bit_rule.proofs.Parts.{rest_from, rest_from_is, put_rest}
 use Rattle.bit_rule.proofs.Width.{legal_le, width_of_legal, width_of_bound}
-use Rattle.num_bits.specs.MinMax.{lowest, highest, first_under, minmax_u64}
-use Rattle.std.specs.Prelude.{Some, None}
+use Rattle.num_bits.specs.MinMax.{lowest, highest, first_under, minmax_of, minmax_u64}
+use Rattle.num_bits.specs.Ranked.{every}
+use Rattle.num_bits.proofs.Numbers.{minmax_at_u64}
 use Rattle.num_bits.proofs.Bounds.{minmax_extremes, minmax_bounds, minmax_nothing, lowest_le_highest}
 use Rattle.bitpacker.proofs.Run.{packed}
 use Rattle.refusal.specs.declared.Refusal.TheVariants.{NoRoom}
@@ -46,6 +47,15 @@ extent_of_none [] is =
       over = λ i within. absurd (not-suc-le-zero within);
     }
 extent_of_none (v ∷ vs) is = absurd (let none = minmax_nothing (v ∷ vs) is in omega arith)
+
+-- of what `minmax` answers; where that is none, both count as 0
+pub extent_of_either : (vs : List ℕ) {answer : Option (ℕ × ℕ)} → answer ≡ minmax_of ltb every vs → {bounds : ℕ × ℕ} → bounds ≡ unwrap_or answer (0, 0)
+    → Extent bounds.0 bounds.1 vs
+extent_of_either vs {answer} is {bounds} either = by_answer answer (sym (minmax_at_u64 vs) ∙ sym is) either
+  where
+    by_answer : (a : Option (ℕ × ℕ)) → minmax_u64 vs ≡ a → bounds ≡ unwrap_or a (0, 0) → Extent bounds.0 bounds.1 vs
+    by_answer None none these = subst (λ b. Extent b.0 b.1 vs) (sym these) (extent_of_none vs none)
+    by_answer (Some (low, high)) some these = subst (λ b. Extent b.0 b.1 vs) (sym these) (extent_of vs low high some)
 
 -- ---- the width
 

@@ -52,7 +52,7 @@ read_one_of base w place bytes =
 unfoldable pub cleared_of : List ℕ → List ℕ
 cleared_of bytes = cond (nat_le 8 (length bytes)) (at_start eight_zeros bytes) bytes
 
--- For a private function: the lowest and the highest of the values, both 0 where there are none.
+-- The lowest and the highest of the values, both 0 where there are none.
 pub record Extent (low high : ℕ) (vs : List ℕ) : Type 0 where
   pub lowest : low ≡ base_of vs
   pub highest : high ≡ or_zero (Rattle.num_bits.specs.MinMax.highest ltb vs)

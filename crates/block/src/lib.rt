@@ -2,13 +2,12 @@
 // middle of `flush` and of `get` in the Rust's src/blocked_bitpacker.rs.
 #![tactic(auto)]
 
-ghost use Rattle.std.specs.Prelude.{◌≡◌, ℕ, ◌+◌, ◌-◌, ◌*◌, ◌^◌, ◌<◌, ◌≤◌, ◌++◌, map, length, slice_index};
-ghost use Rattle.bit_rule.specs.Search.{at_start};
+ghost use Rattle.std.specs.Prelude.{◌≡◌, ℕ, ◌<◌, ◌≤◌, map, length, slice_index};
 ghost use Rattle.bit_rule.specs.Stream.{Fit, of_width};
 ghost use Rattle.bitpacker.proofs.Run.{packed};
 ghost use Rattle.bitunpacker.specs.Unpacker.{range};
-ghost use Rattle.block.specs.Block.{base_of, block_width, differences, bytes_of_block, eight_zeros, above_base};
-ghost use Rattle.block.specs.Calls.{outcome, cleared_of, Extent, seal_of, read_of, read_one_of};
+ghost use Rattle.block.specs.Block.{differences, bytes_of_block, above_base};
+ghost use Rattle.block.specs.Calls.{outcome, cleared_of, seal_of, read_of, read_one_of};
 
 use bit_rule::column_bytes;
 use bitpacker::BitPacker;
@@ -53,16 +52,12 @@ pub fn clear_eight(output: &mut [u8])
     }
 }
 
-// Seals a block of some values whose lowest and highest are known.
-fn seal_between(
-    values: &[u64],
-    lowest: u64,
-    highest: u64,
-    bytes: &mut [u8],
-) -> Result<Sealed, Refusal>
-    requires { Extent lowest highest values.now }
+// Seals a block: base the lowest value, width that of the highest less the lowest, the differences
+// packed at the start of the bytes, and eight zero bytes after them.
+pub fn seal(values: &[u64], bytes: &mut [u8]) -> Result<Sealed, Refusal>
     ensures { outcome result bytes.new ≡ seal_of values.now bytes.old }
 {
+    let (lowest, highest) = minmax(values).unwrap_or((0, 0));
     let num_bits = compute_num_bits(highest - lowest);
     let width = num_bits as usize;
     let size = column_bytes(values.len(), width);
@@ -76,17 +71,6 @@ fn seal_between(
         width,
         size,
     })
-}
-
-// Seals a block: base the lowest value, width that of the highest less the lowest, the differences
-// packed at the start of the bytes, and eight zero bytes after them.
-pub fn seal(values: &[u64], bytes: &mut [u8]) -> Result<Sealed, Refusal>
-    ensures { outcome result bytes.new ≡ seal_of values.now bytes.old }
-{
-    match minmax(values) {
-        Some((lowest, highest)) => seal_between(values, lowest, highest, bytes),
-        None => seal_between(values, 0, 0, bytes),
-    }
 }
 
 // Adds the base to each value.

@@ -5,7 +5,7 @@
 
 mod reading;
 
-ghost use Rattle.std.specs.Prelude.{◌≡◌, false, ◌≤◌, length};
+ghost use Rattle.std.specs.Prelude.{◌≡◌, length};
 ghost use Rattle.bitunpacker.specs.Unpacker.{range, search};
 ghost use Rattle.blocked_bitpacker.specs.Store.{fresh_store, damaged_store};
 ghost use Rattle.blocked_bitpacker.specs.Parts.{Judged};

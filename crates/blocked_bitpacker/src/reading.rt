@@ -1,5 +1,5 @@
 // Reads a store that was judged: its entries, one value, stretches of values, and the search.
-ghost use Rattle.std.specs.Prelude.{◌≡◌, false, true, ℕ, ◌+◌, ◌-◌, ◌*◌, ◌/◌, ◌%◌, ◌^◌, ◌≤◌, ◌<◌, max, min, length, get_or, IfOk, IfErr};
+ghost use Rattle.std.specs.Prelude.{◌≡◌, false, true, ◌+◌, ◌-◌, ◌^◌, ◌≤◌, ◌<◌, length, IfOk, IfErr};
 ghost use Rattle.bit_rule.specs.Search.{matching_ids};
 ghost use Rattle.refusal.specs.declared.Refusal.TheVariants.{Damaged};
 ghost use Rattle.bitunpacker.specs.Parts.{Kept};

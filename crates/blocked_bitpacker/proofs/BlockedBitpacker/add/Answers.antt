@@ -1,6 +1,6 @@
 -- The refusals are the first checks in their order. An add that is not the 128th changes one place and a count (`add_waits`); the 128th hands
 -- the 128 values to `seal` (`add_seals`).
-use Rattle.std.proofs.Common.{◌≡◌, length, sym, ap, ◌∙◌, length-set, lt-ltb, arith}
+use Rattle.std.proofs.Common.{ℕ, ◌≡◌, length, sym, ap, ◌∙◌, length-set, lt-ltb, arith}
 use Rattle.blocked_bitpacker.specs.Calls.{seal_or_refuse, add_of}
 use Rattle.blocked_bitpacker.proofs.Judged.{judged}
 use Rattle.blocked_bitpacker.proofs.Changing.{add_waits, add_seals}
@@ -30,7 +30,7 @@ returns-then-waiting-lt127 c = add_waits _ _ _ (sym c.if-is_damaged.ensures) _ c
 pub returns : goal.returns
 returns c =
     let counts = (judged _ _ _ (sym c.if-is_damaged.ensures)).sound in
-    let places : length c.args.self.buffer ≡ 128 = omega (arith, simp length-set at (ap length c.places.ensures.same), c.places.ensures.len) in
+    let places : length c.args.self.buffer ≡ 128 = omega (arith, length-set {A = ℕ}, ap length c.places.ensures.same, c.places.ensures.len) in
     c.seal.ensures
     ∙ ap (λ vs. seal_or_refuse c.args.self vs 0 c.args.bytes.now c.args.entries.now) c.places.ensures.same
     ∙ add_seals _ _ _ (sym c.if-is_damaged.ensures) c.args.val c.if-self-gt0.false (omega (arith, counts.few_waiting, c.if-waiting-lt127.false)) places
