@@ -7,7 +7,8 @@ ghost use Rattle.bitpacker.specs.Packer.{outcome, fresh, emit, damaged_packer, w
 
 use refusal::Refusal;
 
-// The bits that wait until 64 are complete, lowest first, and how many they are.
+// The bits that wait until 64 are complete, lowest first, and how many they are. The fields are open, as
+// in the Rust, so a packer may come in with any values in them: each call judges it first.
 #[derive(Clone, Copy, Debug, PartialEq, Eq)]
 pub struct BitPacker {
     pub mini_buffer: u64,

@@ -17,7 +17,7 @@ use Rattle.bit_rule.specs.Bytes.{AreBytes, number}
 use Rattle.bit_rule.specs.Stream.{Fit, of_width}
 use Rattle.bit_rule.specs.Place.{bits_at, value_at, values_from}
 use Rattle.bit_rule.proofs.Bytes.{number-take, word_number}
-use Rattle.bit_rule.proofs.Place.{length-values_from, values_from-drop, drop_are_bytes}
+use Rattle.bit_rule.proofs.Place.{values_from-drop, drop_are_bytes}
 use Rattle.block.specs.Block.{differences}
 use Rattle.stumpvessel.specs.Host.{words_of, any_too_wide}
 
@@ -45,10 +45,6 @@ chunks_from (suc n) list bytes there =
 pub chunks_are_words : (list : List ℕ) → AreBytes list → numbers_of (first_chunks 8 (length list / 8) list) ≡ words_of list
 unfolding words_of
 chunks_are_words list bytes = chunks_from (length list / 8) list bytes (omega arith)
-
-pub length-words_of : (list : List ℕ) → length (words_of list) ≡ length list / 8
-unfolding words_of
-length-words_of list = length-values_from 64 0 (length list / 8) list
 
 -- what is written of one is its number
 pub word_at : (words : List (List ℕ)) (i : ℕ) (none : List ℕ) → i < length words → get_or (numbers_of words) i 0 - 0 ≡ from_le_bytes w64 (get_or words i none)
