@@ -78,9 +78,6 @@ whole used n k entries fine =
     let both = neither (not (legal_width w)) (ltb used (entry_offset k entries + bytes_of_block n w)) fine in
     record { legal = not-false _ both.0; ends = ltb-false _ _ both.1 }
 
-pub narrow : {used n k : ℕ} {entries : List ℕ} → Whole used n k entries → entry_width k entries ≤ 64
-narrow block = legal_le _ block.legal
-
 module _ {used n k : ℕ} {entries : List ℕ} (block : Whole used n k entries) (bytes : List ℕ) (there : used ≤ length bytes) where
   pub part_starts : entry_offset k entries ≤ length bytes
   part_starts = omega (arith, block.ends)

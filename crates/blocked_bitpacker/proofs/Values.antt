@@ -1,5 +1,6 @@
 -- The values of a store from an index on, one stretch after the other: each stretch lies in one block, from whose bytes it is read, or among
 -- the values that wait. Two lists with the same elements are the same (`values_are`).
+use Rattle.std.specs.Prelude.{Result}
 use Rattle.refusal.specs.Done.{done}
 use mathlib.Core.Path.{◌≡◌, refl, sym, ap, ap₂, ◌∙◌, subst}
 use mathlib.Core.Logic.{⊎_elim}
@@ -17,7 +18,8 @@ use Rattle.bit_rule.specs.Place.{values_from}
 use Rattle.bit_rule.proofs.Place.{length-values_from, get_or-values_from}
 use Rattle.bit_rule.proofs.Parts.{rest_from, rest_from_is}
 use Rattle.bit_rule.proofs.Width.{le_or_lt}
-use Rattle.bitunpacker.specs.Unpacker.{range}
+use Rattle.refusal.specs.declared.Refusal.{Refusal}
+use Rattle.bitunpacker.specs.Unpacker.{Range, range}
 use Rattle.block.specs.Block.{entry_offset, entry_width, entry_base, damaged_entry, above_base, block_value}
 use Rattle.block.specs.Calls.{read_of}
 use Rattle.blocked_bitpacker.specs.declared.BlockedBitpacker.{BlockedBitpacker}
@@ -100,7 +102,7 @@ module _ (s : BlockedBitpacker) (bytes : List ℕ) {i n : ℕ} {entries : List �
       place_below s (i + last) (omega (arith, here.some, here.counted)) (omega (arith, same_block last inside)) in
       omega (arith, subst (λ k. (i + last) % 128 < length_of_block s k) (same_block last inside) below, next_place last inside)
 
-  pub block_values : (there : i / 128 < s.blocks) → Whole s.used (length_of_block s (i / 128)) (i / 128) entries → s.used ≤ length bytes
+  block_values : (there : i / 128 < s.blocks) → Whole s.used (length_of_block s (i / 128)) (i / 128) entries → s.used ≤ length bytes
       → (out : List ℕ) → length out ≡ n
       → read_of (entry_base (i / 128) entries) (entry_width (i / 128) entries) (i % 128) (rest_from (entry_offset (i / 128) entries) bytes) out
       ≡ range done (values_of s bytes entries i n)
@@ -119,6 +121,18 @@ module _ (s : BlockedBitpacker) (bytes : List ℕ) {i n : ℕ} {entries : List �
       ∙ ap raise (get_or-values_from w (i % 128) n part j h)
       ∙ sym (simp (same_block j h, next_place j h, lt-ltb (i / 128) s.blocks there))) in
       rw rest_from_is (simp (block.legal, many, ne_eqb n 0 (λ none. omega (arith, here.some)), le-leb ((i % 128 + n) * w) (8 * length part) lies) (ap (range done) read))
+
+  -- what reading them answers and leaves
+  pub block_read : (there : i / 128 < s.blocks) → Whole s.used (length_of_block s (i / 128)) (i / 128) entries → s.used ≤ length bytes
+      → (out : List ℕ) → length out ≡ n → {base w at : ℕ} → at ≡ entry_offset (i / 128) entries → w ≡ entry_width (i / 128) entries
+      → base ≡ entry_base (i / 128) entries → (r : Result (Unit {0}) Refusal) (ys : List ℕ) → range r ys ≡ read_of base w (i % 128) (rest_from at bytes) out
+      → range r ys ≡ range done (values_of s bytes entries i n)
+  block_read there block used out many {base} {w} {at} offset width base-is r ys ensured =
+      let reads : ℕ → ℕ → ℕ → Range = λ b v from. read_of b v (i % 128) (rest_from from bytes) out in
+      ensured
+      ∙ ap (λ b. reads b w at) base-is
+      ∙ ap₂ (reads (entry_base (i / 128) entries)) width offset
+      ∙ block_values there block used out many
 
 -- ---- entries that are damaged, and entries that are not
 

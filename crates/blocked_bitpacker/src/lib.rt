@@ -38,6 +38,9 @@ impl BlockedBitpacker {
 
     pub const MAX_BLOCKS: usize = 16_777_216;
 
+    // The first word of an entry is the offset of its block, and its width times this.
+    pub(crate) const WIDTH_PLACE: u64 = 0x100_0000_0000_0000;
+
     fn fresh() -> BlockedBitpacker
         ensures { result ≡ fresh_store }
     {
@@ -125,7 +128,7 @@ impl BlockedBitpacker {
         match block::seal(values, &mut bytes[used..]) {
             Err(why) => self.refused(why),
             Ok(sealed) => {
-                entries[at] = used as u64 + sealed.width as u64 * 0x100_0000_0000_0000;
+                entries[at] = used as u64 + sealed.width as u64 * BlockedBitpacker::WIDTH_PLACE;
                 entries[at + 1] = sealed.base;
                 Stored {
                     done: Ok(()),
@@ -142,6 +145,7 @@ impl BlockedBitpacker {
     }
 
     // Adds a value. The 128th waiting one seals a block.
+    #[tactic(auto, using(crate::proofs::Judged::judged))]
     pub fn add(self, val: u64, bytes: &mut [u8], entries: &mut [u64]) -> Stored
         ensures { changed result bytes.new entries.new ≡ add_of self val bytes.old entries.old }
     {
@@ -154,8 +158,8 @@ impl BlockedBitpacker {
         let waiting = self.waiting;
         let mut next = self;
         next.buffer[waiting] = val;
-        next.waiting = waiting + 1;
-        if waiting < 127 {
+        next.waiting += 1;
+        if next.waiting < BlockedBitpacker::BLOCK_SIZE {
             return Stored {
                 done: Ok(()),
                 store: next,
@@ -165,6 +169,7 @@ impl BlockedBitpacker {
     }
 
     // Seals what waits, and closes the store.
+    #[tactic(auto, using(crate::proofs::Judged::judged))]
     pub fn flush(self, bytes: &mut [u8], entries: &mut [u64]) -> Stored
         ensures { changed result bytes.new entries.new ≡ flush_of self bytes.old entries.old }
     {

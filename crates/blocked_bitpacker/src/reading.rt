@@ -88,8 +88,8 @@ impl<'a> Lent<'a> {
     {
         let word = self.entries[k * 2];
         Entry {
-            offset: (word % 0x100_0000_0000_0000) as usize,
-            width: (word / 0x100_0000_0000_0000) as u8,
+            offset: (word % BlockedBitpacker::WIDTH_PLACE) as usize,
+            width: (word / BlockedBitpacker::WIDTH_PLACE) as u8,
             base: self.entries[k * 2 + 1],
         }
     }
@@ -172,7 +172,7 @@ impl<'a> Lent<'a> {
         }
         let entry = self.entry(k);
         let bytes = &self.bytes[entry.offset..];
-        let _ = block::read(entry.base, entry.width, place as u32, bytes, output);
+        block::read(entry.base, entry.width, place as u32, bytes, output).unwrap();
     }
 
     // Fills the output with the values from an index on, one block's after the other's.

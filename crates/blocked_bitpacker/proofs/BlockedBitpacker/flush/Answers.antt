@@ -23,6 +23,3 @@ returns c =
     c.seal.ensures
     ∙ ap (λ l. seal_or_refuse c.args.self (take c.args.self.waiting l) c.args.self.waiting c.args.bytes.now c.args.entries.now) c.places.ensures.same
     ∙ flush_seals _ _ _ (sym c.if-is_damaged.ensures) c.if-waiting-eq0.false
-
-pub seal-requires : goal.seal-requires
-seal-requires c = judged _ _ _ (sym c.if-is_damaged.ensures)

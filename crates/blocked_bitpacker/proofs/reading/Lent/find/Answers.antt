@@ -11,14 +11,14 @@ use Rattle.blocked_bitpacker.proofs.reading.Lent.find.Goals as goal
 pub loop-k-init : goal.loop-k-init
 loop-k-init c =
     let s = c.args.self.now in
-    kept_empty 0 c.args.positions.now (ids_none s.store.now c.args.lo c.args.hi s.bytes.now s.entries.now c.args.start _ (omega (arith, c.requires.range)))
+    kept_empty 0 c.args.positions.now (ids_none s.store.now c.args.lo c.args.hi s.bytes.now s.entries.now c.args.start _ (omega arith))
 
 pub find_in_stretch-found-requires-clause-stretch : goal.find_in_stretch-found-requires-clause-stretch
 find_in_stretch-found-requires-clause-stretch c =
     let s = c.args.self.now in
     stretch_of_block s.store.now s.entries.now c.args.start c.args.end c.loop-k.k c.max-from.result _ c.requires.fine c.requires.range.2
-    c.requires.range.0 c.loop-k.auto.k (omega (arith, c.div_ceil-last.ensures, c.loop-k-test.true)) c.max-from.ensures
-    (omega (arith, c.max-from.ensures, c.min-to.ensures, c.div_ceil-last.ensures, c.loop-k-test.true, c.loop-k.auto.k, c.requires.range))
+    c.requires.range.0 c.loop-k.auto.k (omega arith) c.max-from.ensures
+    (omega arith)
 
 pub find_in_stretch-found-requires-clause-ids : goal.find_in_stretch-found-requires-clause-ids
 find_in_stretch-found-requires-clause-ids c =
@@ -27,10 +27,10 @@ find_in_stretch-found-requires-clause-ids c =
     let positions = c.loop-k.positions in
     let few = kept_few s.store.now c.args.lo c.args.hi s.bytes.now s.entries.now c.args.start _ c.loop-k.invariant in
     let ordered : c.max-from.result ≤ c.min-to.result =
-    omega (arith, c.max-from.ensures, c.min-to.ensures, c.div_ceil-last.ensures, c.loop-k-test.true, c.loop-k.auto.k, c.requires.range) in
+    omega arith in
     let room : found ≤ length positions = omega (arith, few, c.loop-k.auto.positions, c.requires.room) in
     let rest = mid_len found (length positions) positions (omega arith) in
-    (ordered, omega (arith, c.min-to.ensures, c.requires.range), omega (arith, few, rest, c.max-from.ensures, c.min-to.ensures, c.loop-k.auto.positions, c.requires.room, c.requires.range, c.div_ceil-last.ensures, c.loop-k-test.true))
+    (ordered, omega arith, omega (arith, few, rest))
 
 pub loop-k-preserved : goal.loop-k-preserved
 loop-k-preserved c =
@@ -43,8 +43,8 @@ loop-k-preserved c =
     let ids : ℕ → List ℕ = λ at. ids_of s.store.now c.args.lo c.args.hi start at s.bytes.now s.entries.now in
     let few = kept_few s.store.now c.args.lo c.args.hi s.bytes.now s.entries.now start _ c.loop-k.invariant in
     let within : c.loop-k.found ≤ length c.loop-k.positions = omega (arith, few, c.loop-k.auto.positions, c.requires.room) in
-    let here : min end (max start (128 * k)) ≡ from = omega (arith, c.max-from.ensures, c.div_ceil-last.ensures, c.loop-k-test.true, c.requires.range) in
-    let next : to ≡ min end (max start (128 * (k + 1))) = omega (arith, c.min-to.ensures, c.loop-k.auto.k) in
-    let both = ids_add s.store.now c.args.lo c.args.hi s.bytes.now s.entries.now start from to (omega (arith, c.max-from.ensures))
-    (omega (arith, c.max-from.ensures, c.min-to.ensures, c.div_ceil-last.ensures, c.loop-k-test.true, c.loop-k.auto.k, c.requires.range)) in
+    let here : min end (max start (128 * k)) ≡ from = omega arith in
+    let next : to ≡ min end (max start (128 * (k + 1))) = omega arith in
+    let both = ids_add s.store.now c.args.lo c.args.hi s.bytes.now s.entries.now start from to (omega arith)
+    (omega arith) in
     kept_same (both ∙ ap ids next) (kept_more zero-le (kept_same (ap ids here) c.loop-k.invariant) (kept_behind within c.find_in_stretch-found.ensures))

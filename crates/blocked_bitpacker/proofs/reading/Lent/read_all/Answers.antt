@@ -16,11 +16,11 @@ read_stretch-requires c =
     let end = start + length c.args.output.now in
     let from = c.max-from.result in
     let to = c.min-to.result in
-    let within : to - start ≤ length c.loop-k.output = omega (arith, c.min-to.ensures, c.loop-k.auto.output) in
+    let within : to - start ≤ length c.loop-k.output = omega arith in
     let many = mid_len (from - start) (to - start) c.loop-k.output within in
     stretch_of_block s.store.now s.entries.now start end c.loop-k.k from _ c.requires.fine c.requires.counted (omega arith) c.loop-k.auto.k
-    (omega (arith, c.div_ceil-last.ensures, c.loop-k-test.true)) c.max-from.ensures
-    (omega (arith, many, c.max-from.ensures, c.min-to.ensures, c.div_ceil-last.ensures, c.loop-k-test.true, c.loop-k.auto.k))
+    (omega arith) c.max-from.ensures
+    (omega (arith, many))
 
 pub loop-k-preserved : goal.loop-k-preserved
 loop-k-preserved c =
@@ -29,9 +29,9 @@ loop-k-preserved c =
     let from = c.max-from.result in
     let to = c.min-to.result in
     fill_part s.store.now s.bytes.now s.entries.now c.loop-k.output c.read_stretch.new.output start from to
-    (omega (arith, c.max-from.ensures))
-    (omega (arith, c.max-from.ensures, c.min-to.ensures, c.div_ceil-last.ensures, c.loop-k-test.true, c.loop-k.auto.k))
-    (omega (arith, c.min-to.ensures, c.loop-k.auto.output))
-    (omega (arith, c.max-from.ensures, c.div_ceil-last.ensures, c.loop-k-test.true))
-    (omega (arith, c.min-to.ensures, c.loop-k.auto.k))
+    (omega arith)
+    (omega arith)
+    (omega arith)
+    (omega arith)
+    (omega arith)
     c.loop-k.invariant c.read_stretch.ensures
