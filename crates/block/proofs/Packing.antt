@@ -126,15 +126,22 @@ module _ (base w : ℕ) (vs out₀ : List ℕ) (fit : Fit (pieces base w vs)) (n
       packing_written r ys ensured = subst IsOk (sym (ap (λ o. o.answer) (write_is r ys ensured))) refl
 
     -- past the last value a flush ends the stream
-    pub packing_ends : length vs ≤ i → (r : Result Written Refusal) (ys : List ℕ) → outcome r ys ≡ flush_of packer (rest_from at out)
-        → put_mid at (length out - at) out ys ≡ packed (pieces base w vs) out₀
-    packing_ends all r ys ensured =
+    flush_is : length vs ≤ i → (r : Result Written Refusal) (ys : List ℕ) → outcome r ys ≡ flush_of packer (rest_from at out)
+        → outcome r ys ≡ outcome (emitting fresh (bytes_for (total_bits ps) - emitted_of ps)) (drop (emitted_of ps) (packed ps out₀))
+    flush_is all r ys ensured =
         let whole : take i vs ≡ vs = take_all i vs all in
         let enough : bytes_for (total_bits ps) ≤ length out₀ =
         subst (λ b. bytes_for b ≤ length out₀)
         (sym (ap (λ l. total_bits (pieces base w l)) whole ∙ ap (λ l. total_bits (pieces base w l)) (sym (take-length vs)) ∙ bits_take base w vs (length vs) (le_refl (length vs)))) room in
-        let is = ensured ∙ ap₂ flush_of here.holds part ∙ flush_all ps out₀ (fit_take base w vs i fit) enough in
+        ensured ∙ ap₂ flush_of here.holds part ∙ flush_all ps out₀ (fit_take base w vs i fit) enough
+
+    pub packing_flushed : length vs ≤ i → (r : Result Written Refusal) (ys : List ℕ) → outcome r ys ≡ flush_of packer (rest_from at out) → IsOk r
+    packing_flushed all r ys ensured = subst IsOk (sym (ap (λ o. o.answer) (flush_is all r ys ensured))) refl
+
+    pub packing_ends : length vs ≤ i → (r : Result Written Refusal) (ys : List ℕ) → outcome r ys ≡ flush_of packer (rest_from at out)
+        → put_mid at (length out - at) out ys ≡ packed (pieces base w vs) out₀
+    packing_ends all r ys ensured =
         front ys
-        ∙ ap (λ l. take (emitted_of ps) (so_far ps out₀) ++ l) (ap (λ o. o.output) is)
+        ∙ ap (λ l. take (emitted_of ps) (so_far ps out₀) ++ l) (ap (λ o. o.output) (flush_is all r ys ensured))
         ∙ part_packed ps out₀ (fit_take base w vs i fit)
-        ∙ ap (λ l. packed (pieces base w l) out₀) whole
+        ∙ ap (λ l. packed (pieces base w l) out₀) (take_all i vs all)

@@ -40,7 +40,7 @@ fn pack(values: &[u64], base: u64, width: u8, output: &mut [u8])
         packer = written.packer;
         at += written.emitted;
     }
-    let _ = packer.flush(&mut output[at..]);
+    packer.flush(&mut output[at..]).unwrap();
 }
 
 // Eight zero bytes at the start of the output.

@@ -1,6 +1,6 @@
 -- Each write moves the run on by a value. None is refused, since the whole block has room, and the flush ends the stream.
 use Rattle.std.proofs.Common.{arith}
-use Rattle.block.proofs.Packing.{packing_starts, place_within, packing_goes_on, packing_written, packing_ends}
+use Rattle.block.proofs.Packing.{packing_starts, place_within, packing_goes_on, packing_written, packing_flushed, packing_ends}
 use Rattle.block.proofs.pack.Goals as goal
 
 pub loop-value-init : goal.loop-value-init
@@ -28,4 +28,9 @@ loop-value-preserved c =
 pub returns : goal.returns
 returns c =
     packing_ends _ _ _ _ c.requires.width_bound.1 c.requires.width_bound.0 c.requires.width_in_bounds c.loop-value.invariant
+    c.loop-value-test.false _ _ c.flush.ensures
+
+pub unwrap-requires : goal.unwrap-requires
+unwrap-requires c =
+    packing_flushed _ _ _ _ c.requires.width_bound.1 c.requires.width_bound.0 c.requires.width_in_bounds c.loop-value.invariant
     c.loop-value-test.false _ _ c.flush.ensures
