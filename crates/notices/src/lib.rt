@@ -5,15 +5,16 @@ mod bytes;
 mod refuse;
 mod usage;
 
-pub use refuse::{answer, file, text, unwritable};
+pub use refuse::{FileError, NoAnswer, refused, unwritable};
 pub use usage::{help, version, wrong};
 
-// What a call came to: an answer, a refusal, or words that are no request.
-pub const ANSWERED: u8 = 0;
-
-pub const REFUSED: u8 = 1;
-
-pub const USAGE: u8 = 2;
+// What a call came to, with the number that says it: an answer, a refusal, or words that are no request.
+#[derive(Clone, Copy, Debug, PartialEq, Eq)]
+pub enum Status {
+    Answered = 0,
+    Refused = 1,
+    Usage = 2,
+}
 
 // The most values that a column of the program has.
 pub const LIMIT: u64 = 131_072;

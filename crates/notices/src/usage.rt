@@ -1,13 +1,12 @@
 // How the program is called, and which word of a call is wrong.
-ghost use Rattle.std.specs.Prelude.{◌≡◌, ◌≤◌};
+ghost use Rattle.std.specs.Prelude.{◌≡◌};
+ghost use Rattle.notices.specs.declared.Status.TheVariants.{Usage};
 
-use crate::{ANSWERED, USAGE};
-use desk::{Fault, Word};
+use crate::{NoAnswer, Status};
+use desk::Fault;
+use std::io;
 
-fn page(fd: i32) -> bool {
-    io::write_all(
-        fd,
-        b"./column: which values of a column lie in an interval, with nobody missing
+const PAGE: &str = "./column: which values of a column lie in an interval, with nobody missing
 
   ./column list TERMS LO HI [FROM TO]   the ids whose value lies in LO to HI, each with its value, and how many of how many
   ./column get TERMS ID                 the value of one id
@@ -29,95 +28,33 @@ Its status:
   3  the program could not be built or started: nothing was asked
   4  the program ended without saying its status: what was printed is not to be used
   more than 128: ended by a signal, as by Ctrl-C: what was printed is not to be used
-",
-    )
-}
+";
+
+const VERSION: &str = "column (Stumpvessel) 0.1.0\n";
 
 // What was asked for is a text of its own.
-fn written(done: bool, err: i32) -> u8
-    ensures { result ≤ 1 }
+fn written<W: io::Write>(out: &mut W, text: &str) -> Result<(), NoAnswer> {
+    out.write_all(text.as_bytes())
+        .map_err(|_| NoAnswer::NotWritten)
+}
+
+pub fn help<W: io::Write>(out: &mut W) -> Result<(), NoAnswer> {
+    written(out, PAGE)
+}
+
+pub fn version<W: io::Write>(out: &mut W) -> Result<(), NoAnswer> {
+    written(out, VERSION)
+}
+
+fn say<W: io::Write>(err: &mut W, fault: Fault) -> io::Result<()> {
+    writeln!(err, "usage: {fault}")?;
+    writeln!(err, "./column help says how it is called")
+}
+
+// Words that are no request, and what is wrong with them. Where even that cannot be written, the status says it alone.
+pub fn wrong<W: io::Write>(err: &mut W, fault: Fault) -> Status
+    ensures { result ≡ Usage }
 {
-    if done {
-        ANSWERED
-    } else {
-        crate::refuse::unwritable(err)
-    }
-}
-
-pub fn help(out: i32, err: i32) -> u8
-    ensures { result ≤ 1 }
-{
-    written(page(out), err)
-}
-
-pub fn version(out: i32, err: i32) -> u8
-    ensures { result ≤ 1 }
-{
-    written(io::write_all(out, b"column (Stumpvessel) 0.1.0\n"), err)
-}
-
-// ---- wrong words
-
-// `word NUMBER (NAME)`, by the name on the page.
-fn named(err: i32, word: Word) -> bool {
-    match word {
-        Word::Verb => io::write_all(err, b"word 1"),
-        Word::Terms => io::write_all(err, b"word 2 (TERMS)"),
-        Word::Id => io::write_all(err, b"word 3 (ID)"),
-        Word::Lo => io::write_all(err, b"word 3 (LO)"),
-        Word::Hi => io::write_all(err, b"word 4 (HI)"),
-        Word::From => io::write_all(err, b"word 5 (FROM)"),
-        Word::To => io::write_all(err, b"word 6 (TO)"),
-    }
-}
-
-fn numbered(err: i32, number: usize, what: &[u8]) -> bool {
-    io::write_all(err, b"word ");
-    io::print_decimal(err, number as u64);
-    io::write_all(err, what)
-}
-
-fn missing(err: i32, word: Word) -> bool {
-    named(err, word);
-    io::write_all(err, b" is missing\n")
-}
-
-fn no_number(err: i32, word: Word) -> bool {
-    named(err, word);
-    io::write_all(
-        err,
-        b" is no number: write digits only, and a number below 18446744073709551616\n",
-    )
-}
-
-fn sentence(err: i32, fault: Fault) -> bool {
-    match fault {
-        Fault::Fine => false,
-        Fault::TooLong(number) => numbered(err, number, b" is longer than 4096 bytes\n"),
-        Fault::Missing(word) => missing(err, word),
-        Fault::NoVerb => io::write_all(
-            err,
-            b"word 1 is none of list, get, show, help, --version\n",
-        ),
-        Fault::TooMany(number) => numbered(err, number, b" is one too many\n"),
-        Fault::NotANumber(word) => no_number(err, word),
-        Fault::LoAboveHi => io::write_all(
-            err,
-            b"word 3 (LO) is above word 4 (HI), and no value lies in between: put the lower one first\n",
-        ),
-        Fault::FromNotBelowTo => io::write_all(
-            err,
-            b"word 5 (FROM) is not below word 6 (TO), which is not included: no id lies in between\n",
-        ),
-    }
-}
-
-// Words that are no request, and what is wrong with them.
-pub fn wrong(err: i32, fault: Fault) -> u8
-    ensures { result ≡ 2 }
-{
-    io::write_all(err, b"usage: ");
-    sentence(err, fault);
-    io::write_all(err, b"./column help says how it is called\n");
-    USAGE
+    let _ = say(err, fault);
+    Status::Usage
 }

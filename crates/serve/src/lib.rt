@@ -2,191 +2,138 @@
 // It decides nothing: what the words mean is `desk`'s, what a text leads to `terms`', what is listed the store's.
 #![tactic(auto)]
 
+mod column;
 mod file;
 mod kept;
 mod page;
 mod rows;
 
-ghost use Rattle.std.specs.Prelude.{◌≡◌, ◌+◌, ◌%◌, ◌≤◌};
-ghost use Rattle.serve.specs.Status.{Status, HandedOver};
+ghost use Rattle.std.specs.Prelude.{◌≡◌};
+ghost use Rattle.serve.specs.Status.{Status as StatusOf, HandedOver, digit_of};
 
-use blocked_bitpacker::BlockedBitpacker;
-use desk::Request;
+use column::Column;
+use desk::{Fault, Request};
 use file::{byte_area, entry_area, position_area};
-use notices::{ANSWERED, REFUSED};
-use refusal::Refusal;
+use notices::{NoAnswer, Status};
+use std::io;
+use std::os::fd::AsRawFd;
 use std::rt::Files;
 
-fn get(
-    out: i32,
-    err: i32,
-    path: &[u8],
-    store: BlockedBitpacker,
-    id: u64,
-    bytes: &[u8],
-    entries: &[u64],
-) -> u8
-    ensures { result ≤ 1 }
-{
-    match store.get(id as usize, bytes, entries) {
-        Ok(value) => rows::value(out, err, value),
-        Err(why) => notices::answer(err, path, why, store, bytes, entries),
-    }
+fn show<W: io::Write>(out: &mut W, column: &Column<'_>) -> Result<(), NoAnswer> {
+    let values = column.count()?;
+    Ok(rows::show(out, column, values)?)
 }
 
-// Lists what was found, of so many ids that were asked about.
-fn found(
-    out: i32,
-    err: i32,
-    path: &[u8],
-    store: BlockedBitpacker,
-    answer: Result<usize, Refusal>,
-    asked: u64,
-    bytes: &[u8],
-    entries: &[u64],
-    positions: &[u32],
-) -> u8
-    ensures { result ≤ 1 }
-{
-    match answer {
-        Ok(count) => rows::list(out, err, store, count, asked, bytes, entries, positions),
-        Err(why) => notices::answer(err, path, why, store, bytes, entries),
-    }
+fn get<W: io::Write>(out: &mut W, column: &Column<'_>, id: u64) -> Result<(), NoAnswer> {
+    let value = column.get(id as usize)?;
+    Ok(rows::value(out, value)?)
 }
 
-fn list(
-    out: i32,
-    err: i32,
-    path: &[u8],
-    store: BlockedBitpacker,
-    lo: u64,
-    hi: u64,
-    bytes: &[u8],
-    entries: &[u64],
-) -> u8
-    ensures { result ≤ 1 }
-{
+// The ids with a value in lo to hi, of all ids.
+fn list<W: io::Write>(out: &mut W, column: &Column<'_>, lo: u64, hi: u64) -> Result<(), NoAnswer> {
     let mut positions = position_area();
-    match store.count(bytes, entries) {
-        Err(why) => notices::answer(err, path, why, store, bytes, entries),
-        Ok(values) => {
-            let answer = desk::list_all(store, lo, hi, bytes, entries, &mut positions);
-            found(
-                out,
-                err,
-                path,
-                store,
-                answer,
-                values as u64,
-                bytes,
-                entries,
-                &positions,
-            )
-        }
-    }
+    let values = column.count()?;
+    let count = column.list_all(lo, hi, &mut positions)?;
+    Ok(rows::list(out, column, &positions, count, values as u64)?)
 }
 
-fn list_part(
-    out: i32,
-    err: i32,
-    path: &[u8],
-    store: BlockedBitpacker,
+// The same of the ids from `from` to before `to`.
+fn list_part<W: io::Write>(
+    out: &mut W,
+    column: &Column<'_>,
     lo: u64,
     hi: u64,
     from: u64,
     to: u64,
-    bytes: &[u8],
-    entries: &[u64],
-) -> u8
-    ensures { result ≤ 1 }
-{
+) -> Result<(), NoAnswer> {
     let mut positions = position_area();
-    let answer = desk::list(store, lo, hi, from, to, bytes, entries, &mut positions);
-    let asked = if from < to { to - from } else { 0 };
-    found(
-        out, err, path, store, answer, asked, bytes, entries, &positions,
-    )
+    let count = column.list(lo, hi, from, to, &mut positions)?;
+    let asked = to.saturating_sub(from);
+    Ok(rows::list(out, column, &positions, count, asked)?)
 }
 
-fn answer(
-    out: i32,
-    err: i32,
+// Loads the file of a name, and answers from its column.
+fn from_file<R: Files, F: FnOnce(&Column<'_>) -> Result<(), NoAnswer> + Drop>(
+    rt: &R,
     path: &[u8],
-    request: Request,
-    store: BlockedBitpacker,
-    bytes: &[u8],
-    entries: &[u64],
-) -> u8
-    ensures { result ≤ 1 }
+    answer: F,
+) -> Result<(), NoAnswer>
+    requires { F.IsAlwaysCallable answer }
 {
-    match request {
-        Request::Show => rows::show(out, err, path, store, bytes, entries),
-        Request::Get(id) => get(out, err, path, store, id, bytes, entries),
-        Request::List(lo, hi) => list(out, err, path, store, lo, hi, bytes, entries),
-        Request::ListPart(lo, hi, from, to) => {
-            list_part(out, err, path, store, lo, hi, from, to, bytes, entries)
-        }
-        Request::Help => REFUSED,
-        Request::Version => REFUSED,
-        Request::Wrong(_) => REFUSED,
-    }
-}
-
-// Loads the file and answers from the store.
-fn from_file<R: Files>(rt: &R, out: i32, err: i32, request: Request, path: &[u8]) -> u8
-    ensures { result ≤ 1 }
-{
-    let file = match file::open(rt, path) {
-        Ok(file) => file,
-        Err(error) => return notices::file(err, path, error),
-    };
+    let file = file::open(rt, path)?;
     let mut bytes = byte_area();
     let mut entries = entry_area();
-    let read = file::load(file, &mut bytes, &mut entries);
-    if read.failed {
-        return notices::file(err, path, read.error);
+    let loaded = file::load(file, &mut bytes, &mut entries)?;
+    if let Some(trouble) = loaded.trouble {
+        return Err(NoAnswer::Text(trouble, loaded.lines));
     }
-    let loaded = read.loaded;
-    let trouble = loaded.trouble;
-    if terms::is_trouble(trouble) {
-        return notices::text(err, path, loaded);
-    }
-    answer(out, err, path, request, loaded.store, &bytes, &entries)
+    answer(&Column {
+        store: &loaded.store,
+        bytes: &bytes,
+        entries: &entries,
+    })
 }
 
-// Answers a request on the file of a name. Words that are no request have status 2 and no others have; whether a request is
-// answered or refused is the file's, and the contract leaves it open (docs/PROMISES.md).
-pub fn serve<R: Files>(rt: &R, out: i32, err: i32, request: Request, path: &[u8]) -> u8
-    ensures { Status request result }
-{
+fn answer<R: Files, W: io::Write>(
+    rt: &R,
+    out: &mut W,
+    request: Request,
+    path: &[u8],
+) -> Result<(), NoAnswer> {
     match request {
-        Request::Help => notices::help(out, err),
-        Request::Version => notices::version(out, err),
-        Request::Wrong(fault) => notices::wrong(err, fault),
-        Request::Show => from_file(rt, out, err, request, path),
-        Request::Get(_) => from_file(rt, out, err, request, path),
-        Request::List(_, _) => from_file(rt, out, err, request, path),
-        Request::ListPart(_, _, _, _) => from_file(rt, out, err, request, path),
+        Request::Help => notices::help(out),
+        Request::Version => notices::version(out),
+        Request::Show => from_file(rt, path, |column| show(out, column)),
+        Request::Get(id) => from_file(rt, path, |column| get(out, column, id)),
+        Request::List(lo, hi) => from_file(rt, path, |column| list(out, column, lo, hi)),
+        Request::ListPart(lo, hi, from, to) => {
+            from_file(rt, path, |column| list_part(out, column, lo, hi, from, to))
+        }
+    }
+}
+
+// Answers a request on the file of a name. Words that are no request have their own status and no others have it; whether a
+// request is answered or refused is the file's, and the contract leaves it open (docs/PROMISES.md).
+pub fn serve<R: Files, O: io::Write, E: io::Write>(
+    rt: &R,
+    out: &mut O,
+    err: &mut E,
+    asked: Result<Request, Fault>,
+    path: &[u8],
+) -> Status
+    ensures { StatusOf asked result }
+{
+    match asked {
+        Ok(request) => match answer(rt, out, request, path) {
+            Ok(()) => Status::Answered,
+            Err(why) => notices::refused(err, path, why),
+        },
+        Err(fault) => notices::wrong(err, fault),
     }
 }
 
 // The status of a call whose answer, if it has one, is handed over by seeing that it is kept: what could not be, as on a full
 // disk behind a network, shows there as far as it can be seen (docs/DECISIONS.md, 50).
-pub fn handed_over<R: Files>(rt: &R, out: i32, err: i32, status: u8) -> u8
+pub fn handed_over<R: Files, O: AsRawFd, E: io::Write>(
+    rt: &R,
+    out: &O,
+    err: &mut E,
+    status: Status,
+) -> Status
     ensures { HandedOver status result }
 {
-    if status != ANSWERED {
+    if status != Status::Answered {
         return status;
     }
     if kept::is_lost(rt, out) {
         return notices::unwritable(err);
     }
-    ANSWERED
+    Status::Answered
 }
 
 // The digit that says a status.
-pub fn digit(status: u8) -> u8
-    ensures { result ≡ 48 + status % 10 }
+pub fn digit(status: Status) -> u8
+    ensures { result ≡ digit_of status }
 {
-    b'0' + status % 10
+    b'0' + status as u8
 }

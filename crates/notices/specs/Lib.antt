@@ -1,0 +1,2 @@
+-- What an error of the system is to who asked for a file.
+pub mod FileError
