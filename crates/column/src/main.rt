@@ -1,124 +1,85 @@
 // The desk's program: its words in, an answer on standard output or a refusal on standard error, and last its status.
 #![tactic(auto)]
 
-ghost use Rattle.std.specs.Prelude.{◌≤◌, length};
-
-use desk::Request;
+use notices::Status;
 use std::env::FillError;
+use std::io::Write;
+use std::os::fd::AsRawFd;
 use std::rt::{Env, Files};
-
-const STDOUT_FILENO: i32 = 1;
-
-const STDERR_FILENO: i32 = 2;
 
 // Where the status is said, to a caller whose first word asks for it: a program of this language has no exit status.
 const STATUS_FILENO: i32 = 29;
 
-// A word that was put at the start of a buffer: its length, which is 0 where it is missing or too long for the buffer.
+const STATUS_WORD: &[u8] = b"--status-fd=29";
+
+// A word of the call, in a buffer of its own, and how many bytes of it that are, or why it was not read.
 #[derive(Clone, Copy)]
 struct Word {
-    length: usize,
-    missing: bool,
-    long: bool,
+    bytes: [u8; 4_096],
+    length: Result<usize, FillError>,
 }
 
-fn read_word(rt: &impl Env, i: usize, buffer: &mut [u8]) -> Word
-    ensures { result.length ≤ length buffer.new }
-{
-    match rt.arg(i, buffer) {
-        Ok(length) => Word {
-            length,
-            missing: false,
-            long: false,
-        },
-        Err(FillError::NotPresent) => Word {
-            length: 0,
-            missing: true,
-            long: false,
-        },
-        Err(FillError::TooLong) => Word {
-            length: 0,
-            missing: false,
-            long: true,
-        },
+impl Word {
+    fn read(rt: &impl Env, i: usize) -> Word {
+        let mut bytes = [0; 4_096];
+        let length = rt.arg(i, &mut bytes);
+        Word { bytes, length }
+    }
+
+    // The word, or nothing where it is missing or too long for the buffer.
+    fn text(&self) -> &[u8] {
+        let bytes = &self.bytes[..];
+        let length = self.length.unwrap_or(0);
+        bytes.get(..length).unwrap_or(b"")
+    }
+
+    fn is_long(&self) -> bool {
+        matches!(self.length, Err(FillError::TooLong))
     }
 }
 
-// Whether the first word asks for the status.
-fn is_asked_for_status(rt: &impl Env) -> bool {
-    let mut buffer = io::buffer();
-    let n = read_word(rt, 1, &mut buffer).length;
-    desk::same_word(&buffer[..n], b"--status-fd=29")
+fn is_missing(rt: &impl Env, i: usize) -> bool {
+    matches!(rt.arg(i, &mut [0]), Err(FillError::NotPresent))
 }
 
-// How many words there are behind so many.
-fn words_behind(rt: &impl Env, others: usize) -> usize {
-    let mut buffer = [0u8; 1];
-    for i in others..usize::MAX {
-        if read_word(rt, i, &mut buffer).missing {
-            return i - others;
-        }
-    }
-    usize::MAX - others
+// How many words there are from one on.
+fn words_from(rt: &impl Env, first: usize) -> usize {
+    (first..usize::MAX)
+        .position(|i| is_missing(rt, i))
+        .unwrap_or(usize::MAX - first)
 }
 
-// The first word that was too long for its buffer: one before, or the one that was read last, or 0.
-fn too_long(before: usize, number: usize, word: Word) -> usize {
-    if before != 0 {
-        return before;
-    }
-    if word.long {
-        return number;
-    }
-    0
-}
-
-// What the words behind so many ask for.
-fn asked_behind(rt: &impl Env, others: u8) -> Request {
-    let first = others as usize;
-    let mut verb = io::buffer();
-    let mut path = io::buffer();
-    let mut third = io::buffer();
-    let mut fourth = io::buffer();
-    let mut fifth = io::buffer();
-    let mut sixth = io::buffer();
-    let a = read_word(rt, first, &mut verb);
-    let b = read_word(rt, first + 1, &mut path);
-    let c = read_word(rt, first + 2, &mut third);
-    let d = read_word(rt, first + 3, &mut fourth);
-    let e = read_word(rt, first + 4, &mut fifth);
-    let f = read_word(rt, first + 5, &mut sixth);
-    let mut long = too_long(0, 1, a);
-    long = too_long(long, 2, b);
-    long = too_long(long, 3, c);
-    long = too_long(long, 4, d);
-    long = too_long(long, 5, e);
-    long = too_long(long, 6, f);
-    desk::asked(
-        words_behind(rt, first),
+// Answers the words from one on, and gives the status.
+fn answer<O: Write + AsRawFd, E: Write>(
+    rt: &(impl Env + Files),
+    out: &mut O,
+    err: &mut E,
+    first: usize,
+) -> Status {
+    let words: [Word; 6] = std::array::from_fn(|i| Word::read(rt, first.saturating_add(i)));
+    let long = words.iter().position(Word::is_long).map(|i| i + 1);
+    let [verb, path, third, fourth, fifth, sixth] = &words;
+    let asked = desk::asked(
+        words_from(rt, first),
         long,
-        &verb[..a.length],
-        &third[..c.length],
-        &fourth[..d.length],
-        &fifth[..e.length],
-        &sixth[..f.length],
-    )
-}
-
-// Answers the words behind so many, and gives the status.
-fn answer(rt: &(impl Env + Files), others: u8) -> u8 {
-    let request = asked_behind(rt, others);
-    let mut path = io::buffer();
-    let n = read_word(rt, others as usize + 1, &mut path).length;
-    let status = serve::serve(rt, STDOUT_FILENO, STDERR_FILENO, request, &path[..n]);
-    serve::handed_over(rt, STDOUT_FILENO, STDERR_FILENO, status)
+        verb.text(),
+        third.text(),
+        fourth.text(),
+        fifth.text(),
+        sixth.text(),
+    );
+    let status = serve::serve(rt, out, err, asked, path.text());
+    serve::handed_over(rt, out, err, status)
 }
 
 fn main(rt: HostRuntime) {
-    if is_asked_for_status(&rt) {
-        let status = answer(&rt, 2);
+    let mut out = rt.stdout();
+    let mut err = rt.stderr();
+    if Word::read(&rt, 1).text() == STATUS_WORD {
+        let status = answer(&rt, &mut out, &mut err, 2);
+        // The library has no writer for a descriptor of this number.
         io::write_all(STATUS_FILENO, &[serve::digit(status)]);
         return;
     }
-    answer(&rt, 1);
+    answer(&rt, &mut out, &mut err, 1);
 }

@@ -3,66 +3,74 @@
 
 mod words;
 
+use notices::Status;
 use std::fs::File;
+use std::io::Write;
 use std::os::fd::AsRawFd;
 use std::rt::Files;
-
-const STDOUT_FILENO: i32 = 1;
+use words::{count, word};
 
 // `$ column WORDS`
-fn say_call(line: &[u8]) {
-    io::write_all(STDOUT_FILENO, b"$ column");
-    if line.len() > 0 {
-        io::write_all(STDOUT_FILENO, b" ");
+fn say_call<W: Write>(out: &mut W, line: &[u8]) -> std::io::Result<()> {
+    out.write_all(b"$ column")?;
+    if !line.is_empty() {
+        out.write_all(b" ")?;
     }
-    io::write_all(STDOUT_FILENO, line);
-    io::write_all(STDOUT_FILENO, b"\n");
+    out.write_all(line)?;
+    out.write_all(b"\n")
 }
 
 // `status N`
-fn say_status(status: u8) {
-    io::write_all(STDOUT_FILENO, b"status ");
-    io::print_decimal(STDOUT_FILENO, status as u64);
-    io::write_all(STDOUT_FILENO, b"\n");
+fn say_status<W: Write>(out: &mut W, status: Status) -> std::io::Result<()> {
+    let number = status as u8;
+    writeln!(out, "status {number}")
 }
 
 // One call: the line is its words.
-fn call(rt: &impl Files, line: &[u8]) {
-    say_call(line);
-    let request = desk::asked(
-        words::count(line),
-        0,
-        words::word(line, 1),
-        words::word(line, 3),
-        words::word(line, 4),
-        words::word(line, 5),
-        words::word(line, 6),
+fn call<O: Write, E: Write>(
+    rt: &impl Files,
+    out: &mut O,
+    err: &mut E,
+    line: &[u8],
+) -> std::io::Result<()> {
+    say_call(out, line)?;
+    let asked = desk::asked(
+        count(line),
+        None,
+        word(line, 0),
+        word(line, 2),
+        word(line, 3),
+        word(line, 4),
+        word(line, 5),
     );
-    let path = words::word(line, 2);
-    say_status(serve::serve(rt, STDOUT_FILENO, STDOUT_FILENO, request, path));
+    let status = serve::serve(rt, out, err, asked, word(line, 1));
+    say_status(out, status)
 }
 
 // Each line that ends with a line feed.
-fn calls(rt: &impl Files, text: &[u8]) {
-    let mut from = 0;
-    loop {
-        let stop = words::find(text, from, b'\n');
-        if stop >= text.len() {
-            return;
+fn calls<O: Write, E: Write>(
+    rt: &impl Files,
+    out: &mut O,
+    err: &mut E,
+    text: &[u8],
+) -> std::io::Result<()> {
+    for line in text.split_inclusive(|byte| *byte == b'\n') {
+        if let Some(line) = line.strip_suffix(b"\n") {
+            call(rt, out, err, line)?;
         }
-        call(rt, &text[from..stop]);
-        from = stop + 1;
     }
+    Ok(())
 }
 
 fn main(rt: HostRuntime) {
     let name = "cases";
     match File::open(&rt, name) {
         Ok(file) => {
+            // The standard library reads to the end into memory that grows, and there is none here.
             let mut buffer = io::large_buffer();
             let n = io::read_full(file.as_raw_fd(), &mut buffer);
             drop(file);
-            calls(&rt, &buffer[..n]);
+            let _ = calls(&rt, &mut rt.stdout(), &mut rt.stdout(), &buffer[..n]);
         }
         Err(why) => {
             let _ = eprintln!(rt; "{name}: {why}");

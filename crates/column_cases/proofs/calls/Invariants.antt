@@ -1,9 +1,0 @@
--- Every line starts within the text, and the bytes that are left fall.
-use Rattle.std.proofs.Common.{◌-◌, ◌≤◌, length}
-use Rattle.column_cases.proofs.calls.Given as goal
-
-abbrev pub invariant-loop-from : goal.invariant-loop-from
-invariant-loop-from g l = l.from ≤ length l.text
-
-abbrev pub decreases-loop-from : goal.decreases-loop-from
-decreases-loop-from g l = length l.text - l.from
