@@ -2,6 +2,9 @@
 ghost use Rattle.std.specs.Prelude.{◌≡◌};
 ghost use Rattle.desk.specs.Words.{verb_of, number_of, alone_of, show_of, get_of, interval_of, range_of, list_of, request_of};
 
+use std::error::Error;
+use std::fmt;
+
 // The words by their names on the help page: a verb; the file; and numbers.
 #[derive(Clone, Copy, Debug, PartialEq, Eq)]
 pub enum Word {
@@ -25,6 +28,45 @@ pub enum Fault {
     LoAboveHi,
     FromNotBelowTo,
 }
+
+// The word by its number, and by its name on the page where it has one.
+impl fmt::Display for Word {
+    fn fmt<W: fmt::Write>(&self, f: &mut fmt::Formatter<W>) -> fmt::Result {
+        f.write_str(match self {
+            Word::Verb => "word 1",
+            Word::Terms => "word 2 (TERMS)",
+            Word::Id => "word 3 (ID)",
+            Word::Lo => "word 3 (LO)",
+            Word::Hi => "word 4 (HI)",
+            Word::From => "word 5 (FROM)",
+            Word::To => "word 6 (TO)",
+        })
+    }
+}
+
+// Which word is wrong, and what to do about it.
+impl fmt::Display for Fault {
+    fn fmt<W: fmt::Write>(&self, f: &mut fmt::Formatter<W>) -> fmt::Result {
+        match self {
+            Fault::TooLong(number) => write!(f, "word {number} is longer than 4096 bytes"),
+            Fault::Missing(word) => write!(f, "{word} is missing"),
+            Fault::NoVerb => f.write_str("word 1 is none of list, get, show, help, --version"),
+            Fault::TooMany(number) => write!(f, "word {number} is one too many"),
+            Fault::NotANumber(word) => write!(
+                f,
+                "{word} is no number: write digits only, and a number below 18446744073709551616"
+            ),
+            Fault::LoAboveHi => f.write_str(
+                "word 3 (LO) is above word 4 (HI), and no value lies in between: put the lower one first",
+            ),
+            Fault::FromNotBelowTo => f.write_str(
+                "word 5 (FROM) is not below word 6 (TO), which is not included: no id lies in between",
+            ),
+        }
+    }
+}
+
+impl Error for Fault {}
 
 // What the words ask for.
 #[derive(Clone, Copy, Debug, PartialEq, Eq)]
