@@ -13,7 +13,7 @@ use Rattle.bitpacker.specs.declared.Written.{Written}
 use Rattle.bitpacker.specs.Packer.{outcome, fresh, write_of, flush_of, emitting}
 use Rattle.bitpacker.proofs.Run.{packed}
 use Rattle.block.specs.Block.{bytes_of_block}
-use Rattle.block.proofs.Packing.{Packing, pieces, packing_starts, place_within, packing_goes_on, packing_written, packing_ends}
+use Rattle.block.proofs.Packing.{Packing, pieces, packing_starts, place_within, packing_goes_on, packing_written, packing_flushed, packing_ends}
 use Rattle.stumpvessel.specs.Host.{any_too_wide}
 use Rattle.stumpvessel.proofs.Words.{numbers_of, word_at, length-numbers_of, differences_zero, none_wide_fit}
 
@@ -51,6 +51,10 @@ module _ (words : List (List ℕ)) (w : ℕ) (out₀ : List ℕ)
           → WordsPacked words w out₀ (i + 1) next (at + n) (put_mid at (length out - at) out ys)
       words_go_on kept next n emitted =
           packing_goes_on 0 w (numbers_of words) out₀ fit narrow.0 room here more_numbers r ys wrote kept next n emitted
+
+    pub words_flushed : length words ≤ i → (r : Result Written Refusal) (ys : List ℕ) → outcome r ys ≡ flush_of packer (rest_from at out) → IsOk r
+    words_flushed all r ys ensured =
+        packing_flushed 0 w (numbers_of words) out₀ fit narrow.0 room here (omega (arith, length-numbers_of words)) r ys ensured
 
     pub words_end : length words ≤ i → (r : Result Written Refusal) (ys : List ℕ) → outcome r ys ≡ flush_of packer (rest_from at out)
         → put_mid at (length out - at) out ys ≡ packed (of_width w (numbers_of words)) out₀

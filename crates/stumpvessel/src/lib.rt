@@ -57,7 +57,7 @@ fn pack(words: &[[u8; 8]], width: u8, output: &mut [u8])
         packer = written.packer;
         at += written.emitted;
     }
-    let _ = packer.flush(&mut output[at..]);
+    packer.flush(&mut output[at..]).unwrap();
 }
 
 // What `stumpvessel_pack` does, with the refusal in place of its number.

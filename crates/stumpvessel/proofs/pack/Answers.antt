@@ -1,6 +1,6 @@
 -- Each write moves the run on by a word. None is refused, since no word is too wide and the whole list has room, and the flush ends the stream.
 use Rattle.std.proofs.Common.{arith}
-use Rattle.stumpvessel.proofs.Packing.{words_start, words_within, word_written, words_go_on, words_end}
+use Rattle.stumpvessel.proofs.Packing.{words_start, words_within, word_written, words_go_on, words_flushed, words_end}
 use Rattle.stumpvessel.proofs.pack.Goals as goal
 
 pub loop-word-init : goal.loop-word-init
@@ -34,6 +34,10 @@ slice_bounds-flush-count c = words_within _ _ _ c.requires.width_bound c.require
 
 pub slice_bounds-flush-start : goal.slice_bounds-flush-start
 slice_bounds-flush-start c = words_within _ _ _ c.requires.width_bound c.requires.width_in_bounds c.loop-word.invariant
+
+pub unwrap-requires : goal.unwrap-requires
+unwrap-requires c =
+    words_flushed _ _ _ c.requires.width_bound c.requires.width_in_bounds c.loop-word.invariant c.loop-word-test.false _ _ c.flush.ensures
 
 pub returns : goal.returns
 returns c = words_end _ _ _ c.requires.width_bound c.requires.width_in_bounds c.loop-word.invariant c.loop-word-test.false _ _ c.flush.ensures
