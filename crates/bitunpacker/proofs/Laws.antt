@@ -1,35 +1,34 @@
--- What the unpacker's operations come to in numbers: eight bytes put together by shifts are the number they stand for, a mask is a
--- remainder, and a column's bytes can be counted without its bits.
+-- What the unpacker's operations come to in numbers: the eight bytes of a word are the number that they stand for, what the two checks let
+-- through is sound, a mask is a remainder, and a stretch is filled value by value.
 use mathlib.Core.Path.{◌≡◌, refl, sym, ap, ap₂, ◌∙◌, subst}
+use mathlib.Core.Logic.{⊎_elim}
 use mathlib.Core.Bool.{Bool, true, false, cond}
-use mathlib.Core.List.{List, [], ◌∷◌, ◌++◌, append-nil, map}
-use Rattle.std.proofs.lemmas.List.{length-map, map-append}
-use Prim.Native.Nat.{ℕ, zero, suc, ◌+◌, ◌-◌, ◌*◌, ◌/◌, ◌%◌, ◌^◌, ◌≤◌, ◌<◌}
-use native.Mathlib.Nat.{mul_assoc, add-mul, mul-le-mul, lt_of_lt_of_le, mod-eq_of_lt, one-mul, add-zero, suc-mul}
+use mathlib.Core.List.{List, [], ◌∷◌, ◌++◌, map}
+use Prim.Native.Nat.{ℕ, zero, suc, ◌+◌, ◌-◌, ◌*◌, ◌/◌, ◌%◌, ◌^◌, ◌≤◌, ◌<◌, min}
+use native.Mathlib.Nat.{mul_assoc, add-mul, mul-le-mul, lt_of_lt_of_le, add-zero, suc-mul}
+use native.Mathlib.Numerals.{add-one}
 use native.Mathlib.Omega.{arith}
 use lib.Dec.{leb}
 use lib.Bits.{bit_and, and_mask}
-use lib.Pow.{pow_mono, pow_pos, pow-lt}
+use lib.Pow.{pow_mono}
 use lib.ListN.{length, get_or, take, drop, replicate, set, length-append, length-drop, length-replicate}
-use Rattle.std.proofs.Common.{⊎_elim, min, drop_of_length-le, le_of_lt}
-use Rattle.std.proofs.lemmas.List.{drop-replicate}
-use Rattle.bit_rule.proofs.Width.{le_or_lt, legal_le}
-use Rattle.std.proofs.Common.{w64}
-use Rattle.std.specs.Int.{from_le_bytes}
-use native.Mathlib.Numerals.{add-one}
 use lib.Seq.{set_at, append_snoc, drop-cons, drop-length, take_all}
 use borrow.Author.Tests.{eqb-true, not-false, le-leb, lt-leb}
-use Rattle.bit_rule.specs.Bytes.{AreBytes, number, bytes_for}
-use Rattle.bit_rule.specs.Place.{value_at, values_from}
-use Rattle.bit_rule.proofs.Bytes.{number_append, window_word}
-use Rattle.bit_rule.proofs.Place.{bits_at_load, legal_span, length-values_from, values_from_then, value_at-lt}
-use Rattle.bitunpacker.specs.declared.BitUnpacker.{BitUnpacker}
 use Rattle.std.specs.Prelude.{Err}
+use Rattle.std.specs.Int.{from_le_bytes}
+use Rattle.std.proofs.Common.{drop_of_length-le, le_of_lt, w64}
+use Rattle.std.proofs.lemmas.List.{length-map, map-append, drop-replicate}
 use Rattle.refusal.specs.declared.Refusal.{Refusal}
 use Rattle.refusal.specs.declared.Refusal.TheVariants.{BadWidth, Damaged}
 use Rattle.refusal.specs.Done.{done}
+use Rattle.bit_rule.specs.Bytes.{AreBytes, number, bytes_for}
+use Rattle.bit_rule.specs.Place.{value_at, values_from}
+use Rattle.bit_rule.proofs.Width.{le_or_lt, legal_le}
+use Rattle.bit_rule.proofs.Bytes.{number_append, window_word}
+use Rattle.bit_rule.proofs.Place.{bits_at_load, legal_span, length-values_from, values_from_then, value_at-lt}
+use Rattle.bitunpacker.specs.declared.BitUnpacker.{BitUnpacker}
 use Rattle.bitunpacker.specs.Parts.{checked}
-use Rattle.bitunpacker.specs.Unpacker.{mask_of, bad_width, damaged_mask, Sound}
+use Rattle.bitunpacker.specs.Unpacker.{bad_width, damaged_mask, Sound}
 
 -- ---- the load
 
@@ -71,15 +70,6 @@ tail_number at m bs front short here is =
     ap₂ (λ l k. l ++ drop k (replicate 8 0)) (is ∙ rest) (ap length rest) ∙ ap (λ l. tail ++ l) (drop-replicate n 8 0) in
     let eight : length (tail ++ replicate (8 - n) 0) ≡ 8 = simp (length-append, length-replicate) (omega arith) in
     ap (λ l. from_le_bytes w64 l) word ∙ word_number (tail ++ replicate (8 - n) 0) eight ∙ number-padded tail (8 - n) ∙ ap number (sym (take_all 8 tail few))
-
--- ---- the mask
-
--- a 1 moved up and brought down by one
-pub one_shifted : (w : ℕ) → w < 64 → (1 * 2 ^ w) % 2 ^ 64 ≡ 2 ^ w
-one_shifted w narrow = ap (λ x. x % 2 ^ 64) (one-mul (2 ^ w)) ∙ mod-eq_of_lt (pow-lt narrow)
-
-pub mask_lt : (w : ℕ) → mask_of w < 2 ^ w
-mask_lt w = omega (arith, pow_pos w)
 
 -- ---- the two checks that every call begins with
 
@@ -149,10 +139,7 @@ eights n w =
     ∙ add-mul (8 * (n / 8)) (n % 8) w
     ∙ ap (λ k. k + n % 8 * w) (mul_assoc 8 (n / 8) w)
 
-pub column_law : (n w : ℕ) → n / 8 * w + (n % 8 * w + 7) / 8 ≡ bytes_for (n * w)
-column_law n w = omega (arith, eights n w)
-
--- how large the parts of that sum can be
+-- how large the parts of the sum `n / 8 * w + n % 8 * w / 8` can be
 pub column_fits : (n w : ℕ) → n < 2 ^ 61 → w ≤ 64 → n / 8 * w ≤ (2 ^ 58 - 1) * 64
 column_fits n w few narrow = let eighths : n / 8 ≤ 2 ^ 58 - 1 = omega arith in mul-le-mul eighths narrow
 
@@ -203,11 +190,3 @@ module _ {A : Type 0} (holding : ℕ → A) (w start : ℕ) (bs : List ℕ) (out
             ∙ sym (append_snoc front (holding v) (drop (suc i) out₀))
             ∙ ap₂ (λ l k. l ++ drop k out₀) (sym one_more) (sym (add-one i));
       }
-
-  pub filling_ends : (out : List A) (at shift i : ℕ) → Filling out at shift i → length out₀ ≡ i → out ≡ map holding (values_from w start (length out₀) bs)
-  filling_ends out at shift i all done =
-      let whole = map holding (values_from w start (length out₀) bs) in
-      all.so_far
-      ∙ ap (λ k. map holding (values_from w start k bs) ++ drop k out₀) (sym done)
-      ∙ ap (λ l. whole ++ l) (drop-length out₀)
-      ∙ append-nil whole

@@ -3,7 +3,7 @@ use Rattle.std.specs.Prelude.{Ok}
 use mathlib.Core.Path.{◌≡◌, sym, ap, ap₂, ◌∙◌, subst}
 use mathlib.Core.List.{List, [], ◌++◌, append-nil}
 use Prim.Native.Nat.{ℕ, ◌+◌, ◌-◌, ◌*◌, ◌/◌, ◌%◌, ◌^◌, ◌≤◌, ◌<◌, min, zero-le}
-use native.Mathlib.Nat.{zero-add, add-zero, add-mul, sub_self, le_trans, lt_of_lt_of_le, mul-le-mul_right}
+use native.Mathlib.Nat.{zero-add, add-zero, add-mul, le_trans, lt_of_lt_of_le, mul-le-mul_right}
 use native.Mathlib.Omega.{arith}
 use lib.Pow.{pow_mono}
 use lib.ListN.{length, get_or, take, drop, replicate, length-append, length-drop}
@@ -130,11 +130,6 @@ kept_empty found positions none =
       count = sym (ap (λ l. found + length l) none ∙ add-zero found);
       pasted = sym (ap (λ l. pasted_at found l positions) none ∙ paste_none found positions);
     }
-
-pub kept_none : (w lo hi at found : ℕ) (bs positions : List ℕ) → Kept found (ids_of w lo hi at at bs) positions found positions
-unfolding ids_of values_from matching_ids
-kept_none w lo hi at found bs positions =
-    kept_empty found positions (ap (λ n. matching_ids lo hi at (values_from w at n bs)) (sub_self at))
 
 -- ---- values of up to 32 bits
 

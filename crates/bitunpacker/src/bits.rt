@@ -44,7 +44,10 @@ pub(crate) fn word_at(bytes: &[u8], at: usize, shift: usize, mask: u64) -> u64
     load_word(bytes, at) >> shift & mask
 }
 
-// The same near the end, where a byte that is not there counts as 0.
+// The same near the end, where a byte that is not there counts as 0. Few values lie there, so it is
+// kept out of the loops that read one value after the other.
+#[cold]
+#[inline(never)]
 pub(crate) fn tail_at(bytes: &[u8], at: usize, shift: usize, mask: u64) -> u64
     requires bytes_len_bound { length bytes.now < at + 8 }
     requires shift_bound { shift < 8 }

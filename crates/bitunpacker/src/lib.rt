@@ -41,10 +41,11 @@ impl BitUnpacker {
     }
 
     // An unpacker for a column of num_bits bits a value.
+    #[tactic(auto, unfolding(crate::specs::Unpacker::new_of))]
     pub fn new(num_bits: u8) -> Result<BitUnpacker, Refusal>
         ensures { result ≡ new_of num_bits }
     {
-        let width = num_bits as usize;
+        let width = usize::from(num_bits);
         if !BitUnpacker::is_legal(width) {
             return Err(Refusal::BadWidth);
         }
