@@ -158,8 +158,8 @@ impl BlockedBitpacker {
         let waiting = self.waiting;
         let mut next = self;
         next.buffer[waiting] = val;
-        next.waiting += 1;
-        if next.waiting < BlockedBitpacker::BLOCK_SIZE {
+        next.waiting = waiting + 1;
+        if waiting + 1 < BlockedBitpacker::BLOCK_SIZE {
             return Stored {
                 done: Ok(()),
                 store: next,

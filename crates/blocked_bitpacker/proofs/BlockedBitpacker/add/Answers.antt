@@ -15,8 +15,8 @@ unfolding add_of
 returns-then-self-gt0 c =
     simp (c.refused-then-self-gt0.ensures, sym c.if-is_damaged.ensures, lt-ltb 0 _ c.if-self-gt0.true)
 
-pub returns-then-next-lt-BLOCK_SIZE : goal.returns-then-next-lt-BLOCK_SIZE
-returns-then-next-lt-BLOCK_SIZE c = add_waits _ _ _ (sym c.if-is_damaged.ensures) _ c.if-self-gt0.false (omega arith)
+pub returns-then-waiting-lt-BLOCK_SIZE : goal.returns-then-waiting-lt-BLOCK_SIZE
+returns-then-waiting-lt-BLOCK_SIZE c = add_waits _ _ _ (sym c.if-is_damaged.ensures) _ c.if-self-gt0.false (omega arith)
 
 pub returns : goal.returns
 returns c =

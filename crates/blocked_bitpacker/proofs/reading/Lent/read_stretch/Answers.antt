@@ -1,6 +1,5 @@
 -- Values that wait are copied, and those of a block are read from the part at its offset (`waiting_values_lem`, `block_read`).
-use Rattle.std.specs.Prelude.{IsOk}
-use Rattle.std.proofs.Common.{◌%◌, take, drop, refl, sym, subst, ap, ap₂, ◌∙◌, arith}
+use Rattle.std.proofs.Common.{◌%◌, take, drop, refl, ap, ap₂, ◌∙◌, arith}
 use Rattle.blocked_bitpacker.proofs.ReadingLaws.{whole, part_starts}
 use Rattle.blocked_bitpacker.proofs.Values.{waiting_values_lem, block_read}
 use Rattle.blocked_bitpacker.proofs.reading.Lent.read_stretch.Goals as goal
@@ -17,14 +16,6 @@ slice_bounds-bytes-count c =
 pub slice_bounds-bytes-start : goal.slice_bounds-bytes-start
 slice_bounds-bytes-start c =
     omega (arith, c.entry-entry.ensures.0, part_starts (whole _ _ _ _ (c.requires.fine c.if-self-k.false)) c.args.self.now.bytes.now (omega arith))
-
-pub unwrap-requires : goal.unwrap-requires
-unwrap-requires c =
-    let s = c.args.self.now in
-    let entry = c.entry-entry.ensures in
-    let is = block_read s.store.now s.bytes.now c.requires c.if-self-k.false (whole _ _ _ _ (c.requires.fine c.if-self-k.false)) (omega arith) _ refl
-    entry.0 entry.1 entry.2 _ _ c.read.ensures in
-    subst IsOk (sym (ap (λ r. r.answer) is)) refl
 
 pub returns : goal.returns
 returns c =
