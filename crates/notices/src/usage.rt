@@ -1,6 +1,7 @@
 // How the program is called, and which word of a call is wrong.
-ghost use Rattle.std.specs.Prelude.{◌≡◌};
+ghost use Rattle.std.specs.Prelude.{◌≡◌, IfErr};
 ghost use Rattle.notices.specs.declared.Status.TheVariants.{Usage};
+ghost use Rattle.notices.specs.declared.refuse.NoAnswer.TheVariants.{NotWritten};
 
 use crate::{NoAnswer, Status};
 use desk::Fault;
@@ -33,16 +34,22 @@ Its status:
 const VERSION: &str = "column (Stumpvessel) 0.1.0\n";
 
 // What was asked for is a text of its own.
-fn written<W: io::Write>(out: &mut W, text: &str) -> Result<(), NoAnswer> {
+fn written<W: io::Write>(out: &mut W, text: &str) -> Result<(), NoAnswer>
+    ensures { IfErr result (λ why. why ≡ NotWritten) }
+{
     out.write_all(text.as_bytes())
         .map_err(|_| NoAnswer::NotWritten)
 }
 
-pub fn help<W: io::Write>(out: &mut W) -> Result<(), NoAnswer> {
+pub fn help<W: io::Write>(out: &mut W) -> Result<(), NoAnswer>
+    ensures { IfErr result (λ why. why ≡ NotWritten) }
+{
     written(out, PAGE)
 }
 
-pub fn version<W: io::Write>(out: &mut W) -> Result<(), NoAnswer> {
+pub fn version<W: io::Write>(out: &mut W) -> Result<(), NoAnswer>
+    ensures { IfErr result (λ why. why ≡ NotWritten) }
+{
     written(out, VERSION)
 }
 

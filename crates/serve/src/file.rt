@@ -6,26 +6,20 @@ use std::fs::File;
 use std::rt::Files;
 use terms::{Loaded, Loading};
 
-// Areas for `notices::LIMIT` values: eight bytes for each value, and the eight zeros.
-pub(crate) fn byte_area() -> [u8; 1_048_584]
-    ensures { 1048584 ≡ length result }
+// An area of zeros. Its length is stated for every count, so that no proof writes a list of that many out.
+pub(crate) fn area<T: Copy + Default, const COUNT: usize>() -> [T; COUNT]
+    ensures { COUNT ≡ length result }
 {
-    [0; 1_048_584]
+    [T::default(); COUNT]
 }
 
-// Two words for every 128 values.
-pub(crate) fn entry_area() -> [u64; 2_048]
-    ensures { 2048 ≡ length result }
-{
-    [0; 2_048]
-}
+// Areas for `notices::LIMIT` values: eight bytes for each value, and the eight zeros; two words for every 128 values; and a
+// position for each.
+pub(crate) type ByteArea = [u8; 1_048_584];
 
-// A position for each value.
-pub(crate) fn position_area() -> [u32; 131_072]
-    ensures { 131072 ≡ length result }
-{
-    [0; 131_072]
-}
+pub(crate) type EntryArea = [u64; 2_048];
+
+pub(crate) type PositionArea = [u32; 131_072];
 
 // Opens the file of a name for reading. A name that is no UTF-8 cannot be asked for.
 pub(crate) fn open<R: Files>(rt: &R, path: &[u8]) -> Result<R::File, FileError> {

@@ -13,7 +13,7 @@ ghost use Rattle.serve.specs.Status.{Status as StatusOf, HandedOver, digit_of};
 
 use column::Column;
 use desk::{Fault, Request};
-use file::{byte_area, entry_area, position_area};
+use file::{ByteArea, EntryArea, PositionArea, area};
 use notices::{NoAnswer, Status};
 use std::io;
 use std::os::fd::AsRawFd;
@@ -31,7 +31,7 @@ fn get<W: io::Write>(out: &mut W, column: &Column<'_>, id: u64) -> Result<(), No
 
 // The ids with a value in lo to hi, of all ids.
 fn list<W: io::Write>(out: &mut W, column: &Column<'_>, lo: u64, hi: u64) -> Result<(), NoAnswer> {
-    let mut positions = position_area();
+    let mut positions: PositionArea = area();
     let values = column.count()?;
     let count = column.list_all(lo, hi, &mut positions)?;
     Ok(rows::list(out, column, &positions, count, values as u64)?)
@@ -46,7 +46,7 @@ fn list_part<W: io::Write>(
     from: u64,
     to: u64,
 ) -> Result<(), NoAnswer> {
-    let mut positions = position_area();
+    let mut positions: PositionArea = area();
     let count = column.list(lo, hi, from, to, &mut positions)?;
     let asked = to.saturating_sub(from);
     Ok(rows::list(out, column, &positions, count, asked)?)
@@ -61,8 +61,8 @@ fn from_file<R: Files, F: FnOnce(&Column<'_>) -> Result<(), NoAnswer> + Drop>(
     requires { F.IsAlwaysCallable answer }
 {
     let file = file::open(rt, path)?;
-    let mut bytes = byte_area();
-    let mut entries = entry_area();
+    let mut bytes: ByteArea = area();
+    let mut entries: EntryArea = area();
     let loaded = file::load(file, &mut bytes, &mut entries)?;
     if let Some(trouble) = loaded.trouble {
         return Err(NoAnswer::Text(trouble, loaded.lines));
