@@ -1,10 +1,10 @@
 // Reading and searching a bare column, whose values all lie in the data.
 ghost use Rattle.std.specs.Prelude.{◌≤◌, length};
 
-use crate::areas::{byte_area, bytes_lent, position_area};
+use crate::areas::{BYTES, POSITIONS, area, bytes_lent};
+use crate::load::Load;
 use crate::pack;
 use bitunpacker::BitUnpacker;
-use std::num::{wrapping_add_u32, wrapping_add_u64};
 
 // How far apart two reads are, so that they jump about in the column.
 const STRIDE: u32 = 1543;
@@ -19,18 +19,15 @@ fn next(index: u32, count: u32) -> u32 {
     if far >= count { far - count } else { far }
 }
 
-fn get_each(unpacker: BitUnpacker, data: &[u8], count: u32) -> u64 {
-    let mut sum = 0;
-    let mut index: u32 = 0;
+// The sum of the values, or 0 where one is refused.
+pub fn get_each(unpacker: BitUnpacker, data: &[u8], count: u32) -> u64 {
+    let mut sum: u64 = 0;
+    let mut index = 0;
     for _ in 0..count {
-        match unpacker.get(index, data) {
-            Ok(value) => {
-                sum = wrapping_add_u64(sum, value);
-            }
-            Err(_) => {
-                return 0;
-            }
-        }
+        let Ok(value) = unpacker.get(index, data) else {
+            return 0;
+        };
+        sum = sum.wrapping_add(value);
         index = next(index, count);
     }
     sum
@@ -40,50 +37,41 @@ fn get_each(unpacker: BitUnpacker, data: &[u8], count: u32) -> u64 {
 fn ranges(unpacker: BitUnpacker, data: &[u8], turns: u32, step: u32, output: &mut [u64]) -> u64
     requires { 1 ≤ length output.old }
 {
-    let mut sum = 0;
-    let mut start = 0;
+    let mut sum: u64 = 0;
+    let mut start: u32 = 0;
     for _ in 0..turns {
         output[0] = 0;
         let _ = unpacker.get_range(start, data, output);
-        sum = wrapping_add_u64(sum, output[0]);
-        start = wrapping_add_u32(start, step);
+        sum = sum.wrapping_add(output[0]);
+        start = start.wrapping_add(step);
     }
     sum
 }
 
-fn search(unpacker: BitUnpacker, data: &[u8], count: u32) -> u64 {
-    let mut positions = position_area();
-    match unpacker.get_ids_for_value_range(1, 1, 0, count, data, &mut positions) {
-        Ok(found) => found as u64,
-        Err(_) => 0,
-    }
+pub fn ranges_of_64(unpacker: BitUnpacker, data: &[u8], count: u32) -> u64 {
+    ranges(unpacker, data, count / 64, 64, &mut [0; 64])
 }
 
-fn ask(kind: u64, unpacker: BitUnpacker, data: &[u8], count: u32) -> u64 {
-    match kind {
-        1 => get_each(unpacker, data, count),
-        2 => {
-            let mut output = [0; 64];
-            ranges(unpacker, data, count / 64, 64, &mut output)
-        }
-        3 => {
-            let mut output = [0; 1000];
-            ranges(unpacker, data, count / 1000, 1000, &mut output)
-        }
-        _ => search(unpacker, data, count),
-    }
+pub fn ranges_of_1000(unpacker: BitUnpacker, data: &[u8], count: u32) -> u64 {
+    ranges(unpacker, data, count / 1000, 1000, &mut [0; 1000])
 }
 
-pub fn work(kind: u64, width: u8, count: u32, spacing: u32, times: usize) -> u64 {
-    let mut bytes = byte_area();
-    pack::fill(width, count as usize, spacing as usize, &mut bytes);
-    let Ok(unpacker) = BitUnpacker::new(width) else {
+pub fn search(unpacker: BitUnpacker, data: &[u8], count: u32) -> u64 {
+    let mut positions = area::<u32, POSITIONS>(0);
+    let found = unpacker.get_ids_for_value_range(1, 1, 0, count, data, &mut positions);
+    found.unwrap_or(0) as u64
+}
+
+// Asks a column so many times.
+pub fn work<F: Fn(BitUnpacker, &[u8], u32) -> u64>(load: Load, ask: F) -> u64
+    requires { F.IsAlwaysCallable ask }
+{
+    let mut bytes = area::<u8, BYTES>(0);
+    let _ = pack::fill(load.width, load.count, load.spacing, &mut bytes);
+    let Ok(unpacker) = BitUnpacker::new(load.width) else {
         return 0;
     };
-    let data = &bytes[0..bytes_lent(count)];
-    let mut sum = 0;
-    for _ in 0..times {
-        sum = wrapping_add_u64(sum, ask(kind, unpacker, data, count));
-    }
-    sum
+    let data = &bytes[0..bytes_lent(load.count)];
+    let count = load.count;
+    load.total(move |_| ask(unpacker, data, count))
 }

@@ -1,54 +1,40 @@
 // Packing.
-use crate::areas::byte_area;
+use crate::areas::{BYTES, area};
+use crate::load::Load;
 use bitpacker::BitPacker;
-use std::num::{wrapping_add_u64, wrapping_add_usize};
 
 // Every spacing-th value is 1.
-pub fn value_at(i: usize, spacing: usize) -> u64 {
+pub fn value_at(i: u32, spacing: u32) -> u64 {
     if spacing == 0 {
         return 0;
     }
-    if i % spacing == 0 { 1 } else { 0 }
+    u64::from(i % spacing == 0)
 }
 
-// Packs the values at the start of the bytes, and answers how many bytes were emitted.
-pub fn fill(width: u8, count: usize, spacing: usize, bytes: &mut [u8]) -> u64 {
+// Packs the values at the start of the bytes, and answers how many bytes were emitted, or nothing where a value is refused.
+pub fn fill(width: u8, count: u32, spacing: u32, bytes: &mut [u8]) -> Option<u64> {
     let mut packer = BitPacker::new();
-    let mut at = 0;
+    let mut at: usize = 0;
     for i in 0..count {
+        // Not `get_mut(at..)?`, which takes up to two instructions more for each value.
         if at > bytes.len() {
-            return 0;
+            return None;
         }
-        match packer.write(value_at(i, spacing), width, &mut bytes[at..]) {
-            Ok(written) => {
-                packer = written.packer;
-                at = wrapping_add_usize(at, written.emitted);
-            }
-            Err(_) => {
-                return 0;
-            }
-        }
+        let written = packer
+            .write(value_at(i, spacing), width, &mut bytes[at..])
+            .ok()?;
+        packer = written.packer;
+        at = at.wrapping_add(written.emitted);
     }
-    finish(packer, at, bytes)
-}
-
-fn finish(packer: BitPacker, at: usize, bytes: &mut [u8]) -> u64 {
-    if at > bytes.len() {
-        return 0;
-    }
-    match packer.flush(&mut bytes[at..]) {
-        Ok(written) => wrapping_add_u64(at as u64, written.emitted as u64),
-        Err(_) => 0,
-    }
+    let written = packer.flush(bytes.get_mut(at..)?).ok()?;
+    Some(at.wrapping_add(written.emitted) as u64)
 }
 
 // Twice the same would be done once: the spacing is now one, now the next.
-pub fn work(width: u8, count: u32, spacing: u32, times: usize) -> u64 {
-    let mut bytes = byte_area();
-    let mut sum = 0;
-    for i in 0..times {
-        let emitted = fill(width, count as usize, spacing as usize + i % 2, &mut bytes);
-        sum = wrapping_add_u64(sum, emitted);
-    }
-    sum
+pub fn work(load: Load) -> u64 {
+    let mut bytes = area::<u8, BYTES>(0);
+    load.total(|turn| {
+        let spacing = load.spacing.wrapping_add((turn % 2) as u32);
+        fill(load.width, load.count, spacing, &mut bytes).unwrap_or(0)
+    })
 }

@@ -22,7 +22,8 @@ impl<T: Copy + Into<u64>> fmt::Display for Answer<'_, T> {
     }
 }
 
-// Whoever compares the answers sees where standard output did not take one.
+// Prints some numbers, and what an area holds behind them. A line that standard output does not take is missed by
+// whoever compares the answers.
 pub fn say_area<T: Copy + Into<u64>>(rt: &impl Print, numbers: &[u64], area: &[T]) {
     let answer = Answer { numbers, area };
     let _ = println!(rt; "{answer}");
