@@ -1,7 +1,6 @@
 // The desk's program: its words in, an answer on standard output or a refusal on standard error, and last its status.
 #![tactic(auto)]
 
-use notices::Status;
 use std::env::FillError;
 use std::io::Write;
 use std::os::fd::AsRawFd;
@@ -49,13 +48,13 @@ fn words_from(rt: &impl Env, first: usize) -> usize {
         .unwrap_or(usize::MAX - first)
 }
 
-// Answers the words from one on, and gives the status.
+// Answers the words from one on, and gives the number of the status.
 fn answer<O: Write + AsRawFd, E: Write>(
     rt: &(impl Env + Files),
     out: &mut O,
     err: &mut E,
     first: usize,
-) -> Status {
+) -> u8 {
     let words: [Word; 6] = std::array::from_fn(|i| Word::read(rt, first.saturating_add(i)));
     let long = words.iter().position(Word::is_long).map(|i| i + 1);
     let [verb, path, third, fourth, fifth, sixth] = &words;
@@ -69,7 +68,7 @@ fn answer<O: Write + AsRawFd, E: Write>(
         sixth.text(),
     );
     let status = serve::serve(rt, out, err, asked, path.text());
-    serve::handed_over(rt, out, err, status)
+    serve::handed_over(rt, out, err, status as u8)
 }
 
 fn main(rt: HostRuntime) {

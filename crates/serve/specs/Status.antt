@@ -1,5 +1,5 @@
 -- The status of a request: that of wrong words exactly where the words are no request; else an answer or a refusal, as the file has it.
-use Rattle.std.specs.Prelude.{ℕ, ◌+◌, ◌≡◌, ◌⊎◌, Result, Ok, Err}
+use Rattle.std.specs.Prelude.{ℕ, ◌≤◌, ◌≡◌, ◌⊎◌, Result, Ok, Err}
 use Rattle.desk.specs.declared.words.Request.{Request}
 use Rattle.desk.specs.declared.words.Fault.{Fault}
 use Rattle.notices.specs.declared.Status.{Status as Said}
@@ -13,15 +13,6 @@ abbrev pub Status : Result Request Fault → Said → Type 0
 Status (Ok request) status = IsForRequest status
 Status (Err fault) status = status ≡ Usage
 
--- Handing an answer over may turn it into a refusal, and changes no other status.
-abbrev pub HandedOver : Said → Said → Type 0
-HandedOver status said = (status ≡ Answered → IsForRequest said) × ((status ≡ Answered → ⊥) → said ≡ status)
-
--- The digit that says a status: `0`, `1` or `2`.
-abbrev pub number_of : Said → ℕ
-number_of Answered = 0
-number_of Refused = 1
-number_of Usage = 2
-
-abbrev pub digit_of : Said → ℕ
-digit_of said = 48 + number_of said
+-- Handing an answer over may turn it into a refusal, and changes no other status. The statuses are told by their numbers, 0 and 1.
+abbrev pub HandedOver : ℕ → ℕ → Type 0
+HandedOver status said = (status ≡ 0 → said ≤ 1) × ((status ≡ 0 → ⊥) → said ≡ status)

@@ -8,8 +8,8 @@ mod kept;
 mod page;
 mod rows;
 
-ghost use Rattle.std.specs.Prelude.{◌≡◌};
-ghost use Rattle.serve.specs.Status.{Status as StatusOf, HandedOver, digit_of};
+ghost use Rattle.std.specs.Prelude.{◌≡◌, ◌+◌, ◌%◌};
+ghost use Rattle.serve.specs.Status.{Status as StatusOf, HandedOver};
 
 use column::Column;
 use desk::{Fault, Request};
@@ -113,27 +113,28 @@ pub fn serve<R: Files, O: io::Write, E: io::Write>(
 }
 
 // The status of a call whose answer, if it has one, is handed over by seeing that it is kept: what could not be, as on a full
-// disk behind a network, shows there as far as it can be seen (docs/DECISIONS.md, 50).
+// disk behind a network, shows there as far as it can be seen (docs/DECISIONS.md, 50). A status is its number here and in
+// `digit`, which both take any number: an enum would ask more of who calls them.
 pub fn handed_over<R: Files, O: AsRawFd, E: io::Write>(
     rt: &R,
     out: &O,
     err: &mut E,
-    status: Status,
-) -> Status
+    status: u8,
+) -> u8
     ensures { HandedOver status result }
 {
-    if status != Status::Answered {
+    if status != Status::Answered as u8 {
         return status;
     }
     if kept::is_lost(rt, out) {
-        return notices::unwritable(err);
+        return notices::unwritable(err) as u8;
     }
-    Status::Answered
+    status
 }
 
 // The digit that says a status.
-pub fn digit(status: Status) -> u8
-    ensures { result ≡ digit_of status }
+pub fn digit(status: u8) -> u8
+    ensures { result ≡ 48 + status % 10 }
 {
-    b'0' + status as u8
+    b'0' + status % 10
 }
