@@ -15,7 +15,8 @@ use reading::Lent;
 use refusal::Refusal;
 
 // The waiting values beside how many bytes and blocks are used, how many values wait, and, once a
-// flush has closed the store, how many values its last block has.
+// flush has closed the store, how many values its last block has. The store is of a fixed size, so the
+// array has all its places, and a count stands beside it.
 #[derive(Clone, Copy)]
 pub struct BlockedBitpacker {
     pub buffer: [u64; 128],
@@ -25,7 +26,8 @@ pub struct BlockedBitpacker {
     pub last_length: usize,
 }
 
-// What a call that changes the store answers, with the store as it then is.
+// What a call that changes the store answers, with the store as it then is. A refused call gives the
+// store back too, so it stands beside the Result and not in its Ok.
 #[derive(Clone, Copy)]
 pub struct Stored {
     pub done: Result<(), Refusal>,

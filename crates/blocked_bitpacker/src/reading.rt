@@ -23,7 +23,8 @@ struct Entry {
     base: u64,
 }
 
-// Writes the ids of matching values to the start of the positions, and says how many they are.
+// Writes the ids of matching values to the start of the positions, and says how many they are. (Not
+// `filter_vec_in_place`, whose values are of 32 bits and make room for their own ids.)
 fn keep(lo: u64, hi: u64, id: u32, values: &[u64], positions: &mut [u32]) -> usize
     requires { (id + length values.now ≤ 2 ^ 32) × (length values.now ≤ length positions.old) }
     ensures { Kept 0 (matching_ids lo hi id values.now) positions.old result positions.new }
