@@ -67,7 +67,7 @@ impl From<FileError> for NoAnswer {
     ghost from_gives = { λ why refused. refused ≡ File why };
 
     fn from(why: FileError) -> NoAnswer {
-        NoAnswer::File(why)
+        Self::File(why)
     }
 }
 
@@ -76,7 +76,7 @@ impl From<fmt::Error> for NoAnswer {
     ghost from_gives = { λ _ refused. refused ≡ NotWritten };
 
     fn from(_: fmt::Error) -> NoAnswer {
-        NoAnswer::NotWritten
+        Self::NotWritten
     }
 }
 
