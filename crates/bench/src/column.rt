@@ -5,6 +5,7 @@ use crate::areas::{BYTES, POSITIONS, area, bytes_lent};
 use crate::load::Load;
 use crate::pack;
 use bitunpacker::BitUnpacker;
+use refusal::Refusal;
 
 // How far apart two reads are, so that they jump about in the column.
 const STRIDE: u32 = 1543;
@@ -19,18 +20,15 @@ fn next(index: u32, count: u32) -> u32 {
     if far >= count { far - count } else { far }
 }
 
-// The sum of the values, or 0 where one is refused.
-pub fn get_each(unpacker: BitUnpacker, data: &[u8], count: u32) -> u64 {
+// The sum of the values, jumping about.
+pub fn get_each(unpacker: BitUnpacker, data: &[u8], count: u32) -> Result<u64, Refusal> {
     let mut sum: u64 = 0;
     let mut index = 0;
     for _ in 0..count {
-        let Ok(value) = unpacker.get(index, data) else {
-            return 0;
-        };
-        sum = sum.wrapping_add(value);
+        sum = sum.wrapping_add(unpacker.get(index, data)?);
         index = next(index, count);
     }
-    sum
+    Ok(sum)
 }
 
 // So many ranges, each as long as the output, whose length is step. A refused range leaves the output as it is, and adds 0.
@@ -48,22 +46,22 @@ fn ranges(unpacker: BitUnpacker, data: &[u8], turns: u32, step: u32, output: &mu
     sum
 }
 
-pub fn ranges_of_64(unpacker: BitUnpacker, data: &[u8], count: u32) -> u64 {
-    ranges(unpacker, data, count / 64, 64, &mut [0; 64])
+pub fn ranges_of_64(unpacker: BitUnpacker, data: &[u8], count: u32) -> Result<u64, Refusal> {
+    Ok(ranges(unpacker, data, count / 64, 64, &mut [0; 64]))
 }
 
-pub fn ranges_of_1000(unpacker: BitUnpacker, data: &[u8], count: u32) -> u64 {
-    ranges(unpacker, data, count / 1000, 1000, &mut [0; 1000])
+pub fn ranges_of_1000(unpacker: BitUnpacker, data: &[u8], count: u32) -> Result<u64, Refusal> {
+    Ok(ranges(unpacker, data, count / 1000, 1000, &mut [0; 1000]))
 }
 
-pub fn search(unpacker: BitUnpacker, data: &[u8], count: u32) -> u64 {
+pub fn search(unpacker: BitUnpacker, data: &[u8], count: u32) -> Result<u64, Refusal> {
     let mut positions = area::<u32, POSITIONS>(0);
-    let found = unpacker.get_ids_for_value_range(1, 1, 0, count, data, &mut positions);
-    found.unwrap_or(0) as u64
+    let found = unpacker.get_ids_for_value_range(1, 1, 0, count, data, &mut positions)?;
+    Ok(found as u64)
 }
 
-// Asks a column so many times.
-pub fn work<F: Fn(BitUnpacker, &[u8], u32) -> u64>(load: Load, ask: F) -> u64
+// Asks a column so many times. What is refused adds 0.
+pub fn work<F: Fn(BitUnpacker, &[u8], u32) -> Result<u64, Refusal>>(load: Load, ask: F) -> u64
     requires { F.IsAlwaysCallable ask }
 {
     let mut bytes = area::<u8, BYTES>(0);
@@ -73,5 +71,5 @@ pub fn work<F: Fn(BitUnpacker, &[u8], u32) -> u64>(load: Load, ask: F) -> u64
     };
     let data = &bytes[0..bytes_lent(load.count)];
     let count = load.count;
-    load.total(move |_| ask(unpacker, data, count))
+    load.total(move |_| ask(unpacker, data, count).unwrap_or(0))
 }

@@ -16,7 +16,7 @@ pub fn fill(width: u8, count: u32, spacing: u32, bytes: &mut [u8]) -> Option<u64
     let mut packer = BitPacker::new();
     let mut at: usize = 0;
     for i in 0..count {
-        // Not `get_mut(at..)?`, which takes up to two instructions more for each value.
+        // Not `get_mut(at..)?`, which takes two instructions more for each value, nor a `Result`, whose `?` takes three.
         if at > bytes.len() {
             return None;
         }
