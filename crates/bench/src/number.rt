@@ -4,7 +4,7 @@ use std::rt::Env;
 // No number that is longer by a digit than one above this is read.
 const LONG: u64 = 1_000_000_000_000;
 
-// The number that digits stand for, if it is not too large.
+// The number that digits stand for, if it is not too large. Not by `str::parse`, which takes a sign before them too.
 fn parse(text: &[u8]) -> Option<u64> {
     let mut value: u64 = 0;
     for byte in text {

@@ -58,7 +58,7 @@ pub fn first<const N: usize>(step: &[u64]) -> [u64; N] {
     array::from_fn(|i| step.get(i).copied().unwrap_or(0))
 }
 
-// The last 32 bits, and the last 8.
+// The last 32 bits, and the last 8: `as` alone does not cut, since what is cast has to fit.
 pub fn low_u32(number: u64) -> u32 {
     (number % 0x1_0000_0000) as u32
 }
