@@ -36,6 +36,7 @@ fn ranges(unpacker: BitUnpacker, data: &[u8], turns: u32, step: u32, output: &mu
     requires { 1 ≤ length output.old }
 {
     let mut sum: u64 = 0;
+    // Carried, and not the turn times the step, which would add a product to what is counted.
     let mut start: u32 = 0;
     for _ in 0..turns {
         output[0] = 0;
@@ -46,6 +47,8 @@ fn ranges(unpacker: BitUnpacker, data: &[u8], turns: u32, step: u32, output: &mu
     sum
 }
 
+// One for each length of the output: a `usize` of the array's cannot be computed from the 32 bits of a step, nor the other
+// way round.
 pub fn ranges_of_64(unpacker: BitUnpacker, data: &[u8], count: u32) -> Result<u64, Refusal> {
     Ok(ranges(unpacker, data, count / 64, 64, &mut [0; 64]))
 }

@@ -2,7 +2,7 @@
 ghost use Rattle.std.specs.Prelude.{◌≡◌};
 
 // The most values, and the widest spacing.
-const VALUES: u64 = 400_000;
+const VALUES: u32 = 400_000;
 
 // So many values of this width, of which every spacing-th is 1, and so many times the work.
 #[derive(Clone, Copy)]
@@ -15,13 +15,16 @@ pub struct Load {
 
 impl Load {
     pub fn new(width: u64, count: u64, spacing: u64, times: u64) -> Option<Load> {
+        let width = u8::try_from(width).ok()?;
+        let count = u32::try_from(count).ok()?;
+        let spacing = u32::try_from(spacing).ok()?;
         if width > 64 || count > VALUES || spacing > VALUES {
             return None;
         }
         Some(Load {
-            width: width as u8,
-            count: count as u32,
-            spacing: spacing as u32,
+            width,
+            count,
+            spacing,
             times: times as usize,
         })
     }

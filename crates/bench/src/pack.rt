@@ -11,7 +11,8 @@ pub fn value_at(i: u32, spacing: u32) -> u64 {
     u64::from(i % spacing == 0)
 }
 
-// Packs the values at the start of the bytes, and answers how many bytes were emitted, or nothing where a value is refused.
+// Packs the values, each made of its index, at the start of the bytes, and answers how many bytes were emitted, or nothing
+// where a value is refused.
 pub fn fill(width: u8, count: u32, spacing: u32, bytes: &mut [u8]) -> Option<u64> {
     let mut packer = BitPacker::new();
     let mut at: usize = 0;

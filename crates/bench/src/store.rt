@@ -4,7 +4,7 @@ use crate::load::Load;
 use crate::pack;
 use blocked_bitpacker::BlockedBitpacker;
 
-// A store to which the values were added one by one.
+// A store to which the values were added one by one. Each is made of its index.
 pub fn fill(count: u32, spacing: u32, bytes: &mut [u8], entries: &mut [u64]) -> BlockedBitpacker {
     let made = BlockedBitpacker::new(bytes);
     let mut store = made.store;
@@ -27,7 +27,7 @@ fn add_lent(
 }
 
 // The same, lent for each add. Not one function with the add handed in: an add by a closure, to which the store is given
-// by value or by reference, takes 150 to 390 instructions more, for copies of the store that are not the add's own.
+// by value or by reference, takes 150 to 850 instructions more, for copies of the store that are not the add's own.
 pub fn fill_lent(
     count: u32,
     spacing: u32,
@@ -43,7 +43,7 @@ pub fn fill_lent(
     store
 }
 
-// The whole store, 1,000 values at a time.
+// The whole store, 1,000 values at a time. The index of a turn says where it starts.
 pub fn ranges(store: BlockedBitpacker, count: u32, bytes: &[u8], entries: &[u64]) -> u64 {
     let mut output = [0; 1000];
     let mut sum: u64 = 0;

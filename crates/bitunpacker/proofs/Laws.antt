@@ -139,6 +139,9 @@ eights n w =
     ∙ add-mul (8 * (n / 8)) (n % 8) w
     ∙ ap (λ k. k + n % 8 * w) (mul_assoc 8 (n / 8) w)
 
+pub column_law : (n w : ℕ) → n / 8 * w + (n % 8 * w + 7) / 8 ≡ bytes_for (n * w)
+column_law n w = omega (arith, eights n w)
+
 -- how large the parts of the sum `n / 8 * w + n % 8 * w / 8` can be
 pub column_fits : (n w : ℕ) → n < 2 ^ 61 → w ≤ 64 → n / 8 * w ≤ (2 ^ 58 - 1) * 64
 column_fits n w few narrow = let eighths : n / 8 ≤ 2 ^ 58 - 1 = omega arith in mul-le-mul eighths narrow

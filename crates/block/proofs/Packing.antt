@@ -1,5 +1,5 @@
 -- Packing a block value by value: where a run of writes stands after the first i values (`Packing`), and that one more value moves it on.
-use Rattle.std.specs.Prelude.{Err, Result, IsOk}
+use Rattle.std.specs.Prelude.{Result, IsOk}
 use Rattle.std.proofs.Common.{◌≡◌, ℕ, ◌+◌, ◌-◌, ◌*◌, ◌<◌, ◌≤◌, List, [], ◌∷◌, ◌++◌, length, get_or, take, drop, sym, refl, ap, ◌∙◌, subst, ap₂, zero-le, le_refl, mul-le-mul_right, add-one, arith, take-append-drop, length-take-le, take_all, take-suc}
 use lib.ListN.{length-map}
 use lib.Seq.{take-length}
@@ -112,14 +112,6 @@ module _ (base w : ℕ) (vs out₀ : List ℕ) (fit : Fit (pieces base w vs)) (n
                 ∙ ap (λ l. so_far l out₀) (sym next_pieces);
             same = same_len_mid at (length out - at) out ys kept ∙ here.same;
           }
-
-      -- it is never refused
-      pub packing_not_refused : (r : Result Written Refusal) (ys : List ℕ) → outcome r ys ≡ write_of packer (get_or vs i 0 - base) w (rest_from at out)
-          → (why : Refusal) → r ≡ Err why → ⊥
-      packing_not_refused r ys ensured why refused =
-          let answer = sym refused ∙ ap (λ o. o.answer) (write_is r ys ensured) in
-          let never : ◌≡◌ {A = ℕ} 0 1 = cc in
-          omega arith
 
       -- it is done
       pub packing_written : (r : Result Written Refusal) (ys : List ℕ) → outcome r ys ≡ write_of packer (get_or vs i 0 - base) w (rest_from at out) → IsOk r

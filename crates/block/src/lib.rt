@@ -23,7 +23,8 @@ pub struct Sealed {
     pub size: usize,
 }
 
-// Packs the differences to a base at the start of the output.
+// Packs the differences to a base at the start of the output. `stumpvessel` packs words of bytes in the same
+// way: a contract of one function for both would have to say what an iterator gives, where these name the list.
 #[tactic(auto, using(crate::proofs::Packing::place_within))]
 fn pack(values: &[u64], base: u64, width: u8, output: &mut [u8])
     requires width_bound { (width ≤ 64) × Fit (of_width width (differences base values.now)) }

@@ -39,7 +39,8 @@ fn keep(lo: u64, hi: u64, id: u32, values: &[u64], positions: &mut [u32]) -> usi
     found
 }
 
-// A store that is not damaged, in the two areas that are lent with it.
+// A store that is not damaged, in the two areas that are lent with it. (An index, a range or an interval is handed in at each
+// call: a type for it would be made and taken apart again there.)
 #[derive(Clone, Copy)]
 pub(crate) struct Lent<'a> {
     pub(crate) store: &'a BlockedBitpacker,

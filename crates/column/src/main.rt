@@ -1,6 +1,7 @@
 // The desk's program: its words in, an answer on standard output or a refusal on standard error, and last its status.
 #![tactic(auto)]
 
+use serve::Descriptor;
 use std::env::FillError;
 use std::io::Write;
 use std::os::fd::AsRawFd;
@@ -11,7 +12,8 @@ const STATUS_FILENO: i32 = 29;
 
 const STATUS_WORD: &[u8] = b"--status-fd=29";
 
-// A word of the call, in a buffer of its own, and how many bytes of it that are, or why it was not read.
+// A word of the call, in a buffer of its own, and how many bytes of it that are, or why it was not read. (The library's list
+// of words puts each into memory that grows, and there is none here.)
 #[derive(Clone, Copy)]
 struct Word {
     bytes: [u8; 4_096],
@@ -76,8 +78,7 @@ fn main(rt: HostRuntime) {
     let mut err = rt.stderr();
     if Word::read(&rt, 1).text() == STATUS_WORD {
         let status = answer(&rt, &mut out, &mut err, 2);
-        // The library has no writer for a descriptor of this number.
-        io::write_all(STATUS_FILENO, &[serve::digit(status)]);
+        let _ = Descriptor(STATUS_FILENO).write_all(&[serve::digit(status)]);
         return;
     }
     answer(&rt, &mut out, &mut err, 1);

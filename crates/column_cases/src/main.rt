@@ -26,14 +26,9 @@ fn say_status<W: Write>(out: &mut W, status: Status) -> std::io::Result<()> {
     writeln!(out, "status {number}")
 }
 
-// One call: the line is its words.
-fn call<O: Write, E: Write>(
-    rt: &impl Files,
-    out: &mut O,
-    err: &mut E,
-    line: &[u8],
-) -> std::io::Result<()> {
-    say_call(out, line)?;
+// One call: the line is its words. Who compares the output sees where it did not take a part.
+fn call<O: Write, E: Write>(rt: &impl Files, out: &mut O, err: &mut E, line: &[u8]) {
+    let _ = say_call(out, line);
     let asked = desk::asked(
         count(line),
         None,
@@ -44,22 +39,16 @@ fn call<O: Write, E: Write>(
         word(line, 5),
     );
     let status = serve::serve(rt, out, err, asked, word(line, 1));
-    say_status(out, status)
+    let _ = say_status(out, status);
 }
 
 // Each line that ends with a line feed.
-fn calls<O: Write, E: Write>(
-    rt: &impl Files,
-    out: &mut O,
-    err: &mut E,
-    text: &[u8],
-) -> std::io::Result<()> {
+fn calls<O: Write, E: Write>(rt: &impl Files, out: &mut O, err: &mut E, text: &[u8]) {
     for line in text.split_inclusive(|byte| *byte == b'\n') {
         if let Some(line) = line.strip_suffix(b"\n") {
-            call(rt, out, err, line)?;
+            call(rt, out, err, line);
         }
     }
-    Ok(())
 }
 
 fn main(rt: HostRuntime) {
@@ -70,7 +59,7 @@ fn main(rt: HostRuntime) {
             let mut buffer = io::large_buffer();
             let n = io::read_full(file.as_raw_fd(), &mut buffer);
             drop(file);
-            let _ = calls(&rt, &mut rt.stdout(), &mut rt.stdout(), &buffer[..n]);
+            calls(&rt, &mut rt.stdout(), &mut rt.stdout(), &buffer[..n]);
         }
         Err(why) => {
             let _ = eprintln!(rt; "{name}: {why}");

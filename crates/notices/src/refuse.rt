@@ -21,7 +21,7 @@ pub enum FileError {
     Other,
 }
 
-// The system's numbers for the first three.
+// The system's numbers for the first three. A file is told by them, since they are what each sentence is for.
 const ENOENT: i32 = 2;
 
 const EACCES: i32 = 13;

@@ -35,8 +35,6 @@ turned_order {below} order =
       transitive = λ x y z y<x z<y. order.transitive z y x z<y y<x;
       cotransitive =
           λ x y z y-counts z<x z≮y. true_if_never_false (below y x) (λ y≮x. true≢false (sym (order.cotransitive z y x y-counts z<x y≮x) ∙ z≮y));
-      left_counts = λ x y y<x. order.right_counts y x y<x;
-      right_counts = λ x y y<x. order.left_counts y x y<x;
     }
 
 -- every element of the list counts

@@ -60,19 +60,20 @@ module _ {A : Type 0} {counts : A → Bool} (below : A → A → Bool) (order : 
       let (within, x-counts, before) = position-Some counts xs i x (sym found) in
       (omega arith, rw (filter_more counts xs i x within, first_found counts xs i found, x-counts, ← read) (extremes_one below order x))
 
-  pub extremes_more : (xs : List A) (i : ℕ) (x low high : A)
+  pub extremes_more : ((x y : A) → below x y ≡ true → counts x ≡ true) → ((x y : A) → below x y ≡ true → counts y ≡ true)
+      → (xs : List A) (i : ℕ) (x low high : A)
       → i < length xs
       → x ≡ get_or xs i x
       → Extremes below (filter counts (take i xs)) low high
       → Extremes below (filter counts (take (i + 1) xs)) (cond (below x low) x low) (cond (below high x) x high)
-  extremes_more xs i x low high within read so_far = rw (filter_more counts xs i x within, ← read) (by_test (counts x) refl)
+  extremes_more left_counts right_counts xs i x low high within read so_far = rw (filter_more counts xs i x within, ← read) (by_test (counts x) refl)
     where
       by_test : (b : Bool) → counts x ≡ b
           → Extremes below (filter counts (take i xs) ++ cond b (x ∷ []) []) (cond (below x low) x low) (cond (below high x) x high)
       by_test true x-counts = extremes_snoc below order (filter counts (take i xs)) x low high (all_count-filter counts (take i xs)) so_far
       by_test false skipped =
-          let x≮low : below x low ≡ false = false_if_never_true (below x low) (λ x<low. true≢false (sym (order.left_counts x low x<low) ∙ skipped)) in
-          let high≮x : below high x ≡ false = false_if_never_true (below high x) (λ high<x. true≢false (sym (order.right_counts high x high<x) ∙ skipped)) in
+          let x≮low : below x low ≡ false = false_if_never_true (below x low) (λ x<low. true≢false (sym (left_counts x low x<low) ∙ skipped)) in
+          let high≮x : below high x ≡ false = false_if_never_true (below high x) (λ high<x. true≢false (sym (right_counts high x high<x) ∙ skipped)) in
           rw (append-nil, x≮low, high≮x) so_far
 
   pub minmax_none : (xs : List A) → None ≡ position counts xs → minmax_of below counts xs ≡ None

@@ -10,11 +10,11 @@ pub record Order {A : Type 0} (counts : A → Bool) (below : A → A → Bool) :
   pub irreflexive : (x : A) → below x x ≡ false
   pub transitive : (x y z : A) → below x y ≡ true → below y z ≡ true → below x z ≡ true
   pub cotransitive : (x y z : A) → counts y ≡ true → below x z ≡ true → below y z ≡ false → below x y ≡ true
-  pub left_counts : (x y : A) → below x y ≡ true → counts x ≡ true
-  pub right_counts : (x y : A) → below x y ≡ true → counts y ≡ true
 
--- `<` answers `below`, which is an order, and the values that count are those that equal themselves.
+-- `<` answers `below`, which is an order and holds only of values that count, and those are the ones that equal themselves.
 pub record Ranks {A : Type 0} (eq : A → A → Bool) (partial-cmp : A → A → Option Ordering) (counts : A → Bool) (below : A → A → Bool) : Type 0 where
   pub less : (x y : A) → partial_lt partial-cmp x y ≡ below x y
   pub equal : (x : A) → eq x x ≡ counts x
   pub order : Order counts below
+  pub left_counts : (x y : A) → below x y ≡ true → counts x ≡ true
+  pub right_counts : (x y : A) → below x y ≡ true → counts y ≡ true

@@ -29,12 +29,10 @@ whole_order =
       irreflexive = λ x. le-ltb x x (omega arith);
       transitive = λ x y z x<y y<z. lt-ltb x z (omega (arith, ltb-true));
       cotransitive = λ x y z y-counts x<z y≮z. lt-ltb x y (omega (arith, ltb-true, ltb-false));
-      left_counts = λ x y x<y. refl;
-      right_counts = λ x y x<y. refl;
     }
 
 pub whole_ranks : Ranks nat_eq (λ x y. Some (nat_cmp x y)) every ltb
-whole_ranks = record { less = λ x y. grind (arith, nat_tests); equal = λ x. eq-eqb x x refl; order = whole_order }
+whole_ranks = record { less = λ x y. grind (arith, nat_tests); equal = λ x. eq-eqb x x refl; order = whole_order; left_counts = λ x y x<y. refl; right_counts = λ x y x<y. refl }
 
 -- ---- floats
 
@@ -66,9 +64,14 @@ float_order =
           let less = T_from_true (lt x z) x<z in
           let z-counts = le_right x z (le_of_lt x z less) in
           is_true (lt x y) (lt_of_lt_of_le x z y less (le_of_not-lt y z (T_from_true (no_nan y) y-counts) z-counts (T_from_false (lt y z) y≮z)));
-      left_counts = λ x y x<y. is_true (no_nan x) (le_left x y (le_of_lt x y (T_from_true (lt x y) x<y)));
-      right_counts = λ x y x<y. is_true (no_nan y) (le_right x y (le_of_lt x y (T_from_true (lt x y) x<y)));
     }
 
 pub float_ranks : Ranks eq float_partial_cmp no_nan lt
-float_ranks = record { less = λ x y. less_is_first (lt x y) (eq x y) (lt y x); equal = equal_itself; order = float_order }
+float_ranks =
+    record {
+      less = λ x y. less_is_first (lt x y) (eq x y) (lt y x);
+      equal = equal_itself;
+      order = float_order;
+      left_counts = λ x y x<y. is_true (no_nan x) (le_left x y (le_of_lt x y (T_from_true (lt x y) x<y)));
+      right_counts = λ x y x<y. is_true (no_nan y) (le_right x y (le_of_lt x y (T_from_true (lt x y) x<y)));
+    }

@@ -3,6 +3,7 @@
 #![tactic(auto)]
 
 mod column;
+mod descriptor;
 mod file;
 mod kept;
 mod page;
@@ -12,6 +13,7 @@ ghost use Rattle.std.specs.Prelude.{◌≡◌, ◌+◌, ◌%◌};
 ghost use Rattle.serve.specs.Status.{Status as StatusOf, HandedOver};
 
 use column::Column;
+pub use descriptor::Descriptor;
 use desk::{Fault, Request};
 use file::{ByteArea, EntryArea, PositionArea, area};
 use notices::{NoAnswer, Status};

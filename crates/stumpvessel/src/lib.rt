@@ -41,8 +41,9 @@ fn has_too_wide(words: &[[u8; 8]], width: u8) -> bool
     words.iter().any(|word| exceeds(u64::from_le_bytes(*word), usize::from(width)))
 }
 
-// Packs the words at the start of the output, as `block` packs its values. A word is read as it is packed:
-// without a heap there is nowhere to put all of them, and one function for both would need a closure.
+// Packs the words at the start of the output, as `block` packs its values. They are two functions: a word is
+// made of its bytes as it is packed and a difference of its value, and a contract of one function for both
+// would have to say what an iterator gives, where these two name the list.
 fn pack(words: &[[u8; 8]], width: u8, output: &mut [u8])
     requires width_bound { (width ≤ 64) × (any_too_wide width (map (from_le_bytes w64) words.now) ≡ false) }
     requires width_in_bounds { bytes_for (length words.now * width) ≤ length output.old }

@@ -33,7 +33,7 @@ loop-val-preserved g c =
     let next : after + (i + 1) ≡ after + i + 1 = omega arith in (
       omega arith,
       rw (next, c.lower-min_so_far.ensures, c.higher-max_so_far.ensures)
-          (extremes_more _ g.met.T.Ranked.ranks.order vals (after + i) _ _ _ (omega arith) (at_rest vals after i _ within c.val-item.is) so_far),
+          (extremes_more _ g.met.T.Ranked.ranks.order g.met.T.Ranked.ranks.left_counts g.met.T.Ranked.ranks.right_counts vals (after + i) _ _ _ (omega arith) (at_rest vals after i _ within c.val-item.is) so_far),
     )
 
 pub returns : goal.returns
