@@ -54,7 +54,9 @@ fn list_part<W: io::Write>(
     Ok(rows::list(out, column, &positions, count, asked)?)
 }
 
-// Loads the file of a name, and answers from its column.
+// Loads the file of a name, and answers from its column. Not inlined: the areas take over a megabyte of the stack, which the
+// requests without a file do not need.
+#[inline(never)]
 fn from_file<R: Files, F: FnOnce(&Column<'_>) -> Result<(), NoAnswer> + Drop>(
     rt: &R,
     path: &[u8],
