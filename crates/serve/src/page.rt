@@ -11,7 +11,7 @@ pub(crate) struct Page<W, const SIZE: usize> {
     used: usize,
 }
 
-impl<W: io::Write + Drop, const SIZE: usize> Page<W, SIZE> {
+impl<W: io::Write, const SIZE: usize> Page<W, SIZE> {
     pub(crate) fn new(out: W) -> Page<W, SIZE> {
         Page {
             out,
@@ -20,8 +20,8 @@ impl<W: io::Write + Drop, const SIZE: usize> Page<W, SIZE> {
         }
     }
 
-    // Writes what waits.
-    fn write_out(&mut self) -> fmt::Result
+    // Writes what waits, as at the end of what is put on the page.
+    pub(crate) fn write_out(&mut self) -> fmt::Result
         ensures { self.new.used ≡ 0 }
     {
         let used = self.used;
@@ -29,15 +29,10 @@ impl<W: io::Write + Drop, const SIZE: usize> Page<W, SIZE> {
         let waiting = self.bytes.get(..used).ok_or(fmt::Error)?;
         self.out.write_all(waiting).map_err(|_| fmt::Error)
     }
-
-    // Nothing more is written to it.
-    pub(crate) fn end(mut self) -> fmt::Result {
-        self.write_out()
-    }
 }
 
 // A text is put on the page whole. Where there is no room for it, what waits is written first.
-impl<W: io::Write + Drop, const SIZE: usize> fmt::Write for Page<W, SIZE> {
+impl<W: io::Write, const SIZE: usize> fmt::Write for Page<W, SIZE> {
     fn write_str(&mut self, text: &str) -> fmt::Result {
         let text = text.as_bytes();
         if text.len() > SIZE {

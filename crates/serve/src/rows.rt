@@ -11,7 +11,7 @@ type LargePage<W> = Page<W, 65_536>;
 pub(crate) fn value<W: std::io::Write>(out: &mut W, value: u64) -> fmt::Result {
     let mut page = Page::<_, 4_096>::new(out);
     writeln!(page, "{value}")?;
-    page.end()
+    page.write_out()
 }
 
 // `ID VALUE` for each of the ids.
@@ -41,7 +41,7 @@ pub(crate) fn list<W: std::io::Write>(
     let mut page = LargePage::new(out);
     rows(&mut page, column, &positions[..count])?;
     writeln!(page, "{count} of {asked}")?;
-    page.end()
+    page.write_out()
 }
 
 // ---- what a column is
@@ -105,5 +105,5 @@ pub(crate) fn show<W: std::io::Write>(
     writeln!(page, "used bytes {}", store.used)?;
     writeln!(page, "waiting {}", store.waiting)?;
     blocks(&mut page, column, values)?;
-    page.end()
+    page.write_out()
 }
