@@ -178,7 +178,8 @@ impl<'a> Lent<'a> {
         let _ = block::read(entry.base, entry.width, place as u32, bytes, output);
     }
 
-    // Fills the output with the values from an index on, one block's after the other's.
+    // Fills the output with the values from an index on, one block's after the other's. (`find` cuts its range at the blocks in the
+    // same way: a function for that would answer two indexes, about which each of them would have to be told again what is here.)
     #[tactic(auto, using(crate::proofs::Values::count_small))]
     pub(crate) fn read_all(&self, start: usize, output: &mut [u64])
         requires some { 0 < length output.old }

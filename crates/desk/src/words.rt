@@ -150,7 +150,8 @@ fn get(count: usize, id: &[u8]) -> Result<Request, Fault>
     Ok(Request::Get(id))
 }
 
-// LO and HI are both included.
+// LO and HI are both included. (`range` differs in its comparison and its fault: one function for the two, with both handed in,
+// would be no plainer.)
 #[tactic(auto, unfolding(crate::specs::Words::interval_of))]
 fn interval(lo: &[u8], hi: &[u8]) -> Result<(u64, u64), Fault>
     ensures { result ≡ interval_of lo.now hi.now }

@@ -54,7 +54,7 @@ impl Column for Bare<'_> {
     }
 }
 
-// A store in its areas.
+// A store in its areas, as a call of the port is lent them.
 #[derive(Clone, Copy)]
 pub struct InAreas<'a> {
     pub store: &'a BlockedBitpacker,

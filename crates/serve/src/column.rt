@@ -1,4 +1,5 @@
-// A column that was loaded: its store with the areas that hold it. What the store refuses is no answer.
+// A column that was loaded: its store with the areas that hold it. What the store refuses is no answer. (The store's crate has such
+// a struct for itself, with what it has judged; document 01's calls are lent the three apart.)
 use blocked_bitpacker::BlockedBitpacker;
 use notices::NoAnswer;
 use refusal::Refusal;

@@ -39,7 +39,8 @@ fn list<W: io::Write>(out: &mut W, column: &Column<'_>, lo: u64, hi: u64) -> Res
     Ok(rows::list(out, column, &positions, count, values as u64)?)
 }
 
-// The same of the ids from `from` to before `to`.
+// The same of the ids from `from` to before `to`. (Two functions here and in `Column`, as in `desk`: over all ids the count says how
+// many were asked about.)
 fn list_part<W: io::Write>(
     out: &mut W,
     column: &Column<'_>,

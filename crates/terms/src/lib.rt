@@ -62,6 +62,7 @@ fn nothing_read(line: Line) -> bool
     line.wrong.is_none() && !line.after_cr && line.digits == 0
 }
 
+// As the store's own refusals, whose function is private to its crate.
 fn refused(why: Refusal, store: BlockedBitpacker) -> Stored
     ensures { result ≡ refused_with why store }
 {
