@@ -51,6 +51,8 @@ struct Narrow<'a> {
     ghost narrow: { column.unpacker.num_bits ≤ 32 },
 }
 
+// What is asked of a range and of the positions is said at each call: both are there for one call, and a type for them
+// would be made and taken apart at each.
 impl Narrow<'_> {
     // A ramp: at most 32 ids, wherever they start.
     fn ramp(&self, from: u32, to: u32, positions: &mut [u32]) -> usize
