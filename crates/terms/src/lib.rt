@@ -116,33 +116,28 @@ impl Loading {
     }
 
     // A line's number was handed to the store, which answered.
-    fn added(self, stored: Stored) -> Loading
-        ensures { result ≡ added_by stored self }
+    fn added(&mut self, stored: Stored)
+        ensures { self.new ≡ added_by stored self.old }
     {
         match stored.done {
-            Ok(()) => Loading {
-                store: stored.store,
-                lines: self.lines.wrapping_add(1),
-                line: Line::new(),
-                trouble: None,
-            },
-            Err(why) => self.stopped(why.into()),
+            Ok(()) => {
+                self.store = stored.store;
+                self.lines = self.lines.wrapping_add(1);
+                self.line = Line::new();
+                self.trouble = None;
+            }
+            Err(why) => self.trouble = Some(why.into()),
         }
     }
 
     // The line ends, and says this.
     #[tactic(auto, unfolding(crate::specs::Loading::said_of))]
-    fn said(
-        self,
-        numeral: Result<u64, NumeralError>,
-        bytes: &mut [u8],
-        entries: &mut [u64],
-    ) -> Loading
-        ensures { taken result bytes.new entries.new ≡ said_of self numeral bytes.old entries.old }
+    fn said(&mut self, numeral: Result<u64, NumeralError>, bytes: &mut [u8], entries: &mut [u64])
+        ensures { taken self.new bytes.new entries.new ≡ said_of self.old numeral bytes.old entries.old }
     {
         match numeral {
             Ok(value) => self.added(add(self.store, value, bytes, entries)),
-            Err(why) => self.stopped(why.into()),
+            Err(why) => self.trouble = Some(why.into()),
         }
     }
 
@@ -157,7 +152,8 @@ impl Loading {
         let mut loading = self;
         for byte in text {
             if *byte == b'\n' {
-                loading = loading.said(loading.line.ended(), bytes, entries);
+                let numeral = loading.line.ended();
+                loading.said(numeral, bytes, entries);
                 if loading.trouble.is_some() {
                     return loading;
                 }
