@@ -25,7 +25,7 @@ use Rattle.bitpacker.specs.Packer.{outcome, fresh, emitting}
 use Rattle.bitpacker.specs.Run.{pack_of}
 use Rattle.bitpacker.proofs.Run.{Narrow, pack_all}
 use Rattle.bitunpacker.specs.Unpacker.{unpacker_of, mask_of, get_of, range, get_range_of, Search, search, ids_of, search_of}
-use Rattle.promises.specs.Reply.{written_answer, got_reply, filled_answer, found_answer}
+use Rattle.promises.specs.Reply.{written_answer, number_reply, filled_answer, found_answer}
 use Rattle.promises.specs.Column.{stretch, ReadsAs, PackedAndRead, ReadAndPacked}
 
 -- a search that writes these ids
@@ -114,7 +114,7 @@ module _ (w : ℕ) (vs rest : List ℕ) (legal : legal_width w ≡ true) (fit : 
   unfolding bytes found_ids
   stream_reads =
       record {
-        one = λ i h. ap got_reply (one i h);
+        one = λ i h. ap number_reply (one i h);
         some_values = λ start out few. ap filled_answer (some_values start out few);
         all_values = λ out same. ap filled_answer (all_values out same);
         some_ids = λ lo hi start end positions few room. ap found_answer (some_ids lo hi start end positions few room);

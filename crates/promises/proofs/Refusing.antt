@@ -17,7 +17,7 @@ use Rattle.block.specs.Block.{damaged_entry}
 use Rattle.blocked_bitpacker.specs.Calls.{Changed, changed, answered, refused_call, add_of, flush_of, counted_of, get_of, get_range_of, search_of, sealed, waits, waiting_values, entries_full, no_room_for_block}
 use Rattle.blocked_bitpacker.specs.Store.{is_closed, damaged_store, count_of, in_block, length_of_block, touched_damaged}
 use Rattle.blocked_bitpacker.specs.declared.BlockedBitpacker.{BlockedBitpacker}
-use Rattle.promises.specs.Reply.{values, refusal, counted_reply, got_reply}
+use Rattle.promises.specs.Reply.{values, refusal, number_reply}
 use Rattle.promises.specs.Defined.{Held, held}
 use Rattle.promises.specs.Histories.{add, flush, count, get, range as rangeCall, search as searchCall, Outcome, gives, changes, fills, finds, outcome_of}
 use Rattle.promises.specs.Promises.{ARefusalChangesNothing}
@@ -83,14 +83,14 @@ module _ (h : Held) where
   -- ---- reading
 
   unfoldable CountKeeps : Result ℕ Refusal → Type 0
-  CountKeeps r = Keeps [] h (gives (counted_reply r) [] h)
+  CountKeeps r = Keeps [] h (gives (number_reply r) [] h)
 
   count_keeps : CountKeeps (counted_of s h.bytes h.entries)
   unfolding counted_of CountKeeps damaged
   count_keeps = checked CountKeeps damaged (Err Damaged) (Ok (count_of s)) (refuses [] h 8) (does_not [] h (count_of s ∷ []) [] h)
 
   unfoldable GetKeeps : Result ℕ Refusal → Type 0
-  GetKeeps r = Keeps [] h (gives (got_reply r) [] h)
+  GetKeeps r = Keeps [] h (gives (number_reply r) [] h)
 
   refused_get : (why : Refusal) → GetKeeps (Err why)
   unfolding GetKeeps

@@ -9,7 +9,7 @@ use Rattle.bit_rule.specs.Search.{matching_ids, at_start}
 use Rattle.bitpacker.specs.Packer.{Outcome}
 use Rattle.bitpacker.specs.Run.{pack_of}
 use Rattle.bitunpacker.specs.Unpacker.{unpacker_of, get_of, get_range_of, search_of}
-use Rattle.promises.specs.Reply.{values, answer, written_answer, emits, got_reply, filled_answer, found_answer, finds_ids}
+use Rattle.promises.specs.Reply.{values, answer, written_answer, emits, number_reply, filled_answer, found_answer, finds_ids}
 
 -- The values of a list from index `start` on, so many of them.
 abbrev pub stretch : ℕ → ℕ → List ℕ → List ℕ
@@ -18,7 +18,7 @@ stretch start n vs = take n (drop start vs)
 -- Bytes from which an unpacker of width w reads the list vs.
 pub record ReadsAs (w : ℕ) (vs bytes : List ℕ) : Type 0 where
   -- Each value is read by its index.
-  pub one : (i : ℕ) → i < length vs → got_reply (get_of (unpacker_of w) i bytes) ≡ values (get_or vs i 0 ∷ [])
+  pub one : (i : ℕ) → i < length vs → number_reply (get_of (unpacker_of w) i bytes) ≡ values (get_or vs i 0 ∷ [])
   -- "A range read fills the output with values start, start+1, ..": an output that reaches no further than the list.
   pub some_values : (start : ℕ) (out : List ℕ) → start + length out ≤ length vs
       → filled_answer (get_range_of (unpacker_of w) start bytes out) ≡ answer (values []) (stretch start (length out) vs)

@@ -3,7 +3,7 @@
 use Rattle.std.specs.Prelude.{ℕ, ◌^◌, ◌<◌, ◌≡◌, Bool, false, ◌||◌, List, [], ◌∷◌, ◌++◌, ltb}
 use Rattle.bitunpacker.specs.Unpacker.{Range, Search}
 use Rattle.blocked_bitpacker.specs.Calls.{Changed, new_of, add_of, flush_of, counted_of, get_of, get_range_of, search_of}
-use Rattle.promises.specs.Reply.{Reply, values, refusal, Answer, answer, done_reply, counted_reply, got_reply, filled_answer, found_answer}
+use Rattle.promises.specs.Reply.{Reply, values, refusal, Answer, answer, done_reply, number_reply, filled_answer, found_answer}
 use Rattle.promises.specs.Defined.{Held, held}
 
 -- ---- a call
@@ -47,8 +47,8 @@ finds h r = record { answer = found_answer r; left = h }
 unfoldable pub outcome_of : Call → Held → Outcome
 outcome_of (add v) h = changes (add_of h.store v h.bytes h.entries)
 outcome_of flush h = changes (flush_of h.store h.bytes h.entries)
-outcome_of count h = gives (counted_reply (counted_of h.store h.bytes h.entries)) [] h
-outcome_of (get i) h = gives (got_reply (get_of h.store i h.bytes h.entries)) [] h
+outcome_of count h = gives (number_reply (counted_of h.store h.bytes h.entries)) [] h
+outcome_of (get i) h = gives (number_reply (get_of h.store i h.bytes h.entries)) [] h
 outcome_of (range start out) h = fills h (get_range_of h.store start h.bytes h.entries out)
 outcome_of (search lo hi start end positions) h = finds h (search_of h.store lo hi start end h.bytes h.entries positions)
 

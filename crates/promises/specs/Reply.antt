@@ -1,5 +1,5 @@
 -- An answer as document 01 writes it: a refusal is "its number and nothing else", and any other answer is its values. One definition for
--- each enum of an answer gives the number and the values of each of its cases. What a call writes stands in the buffer that was lent to it.
+-- each kind of answer gives the number and the values of its cases. What a call writes stands in the buffer that was lent to it.
 use Rattle.std.specs.Prelude.{ℕ, List, [], ◌∷◌, length, take, Float, Some, None, Ok, Err, Result}
 use Rattle.std.specs.declared.option.Option.{Option}
 use Rattle.std.specs.Float.Ieee.{to_bits}
@@ -17,7 +17,7 @@ pub data Reply : Type 0 where
   values : List ℕ → Reply
   refusal : ℕ → Reply
 
--- ---- each enum
+-- ---- each kind of answer
 
 -- The lowest and the highest, or none. Of floats, their patterns of 64 bits.
 abbrev pub words_reply : Option (ℕ × ℕ) → Reply
@@ -38,35 +38,20 @@ abbrev pub made_reply : Result BitUnpacker Refusal → Reply
 made_reply (Ok u) = values (u.num_bits ∷ u.mask ∷ [])
 made_reply (Err why) = refusal (number_of why)
 
--- The value that a single read gave.
-abbrev pub got_reply : Result ℕ Refusal → Reply
-got_reply (Ok v) = values (v ∷ [])
-got_reply (Err why) = refusal (number_of why)
+-- A number: the value that a single read gave, how many ids a search found, how many values a store has accepted.
+abbrev pub number_reply : Result ℕ Refusal → Reply
+number_reply (Ok n) = values (n ∷ [])
+number_reply (Err why) = refusal (number_of why)
 
--- A range read gives no value besides those in the output.
-abbrev pub filled_reply : Result (Unit {0}) Refusal → Reply
-filled_reply (Ok _) = values []
-filled_reply (Err why) = refusal (number_of why)
-
--- How many ids a search found.
-abbrev pub found_reply : Result ℕ Refusal → Reply
-found_reply (Ok n) = values (n ∷ [])
-found_reply (Err why) = refusal (number_of why)
+-- No value: of a range read, whose values stand in the output, and of a call that changes a store.
+abbrev pub done_reply : Result (Unit {0}) Refusal → Reply
+done_reply (Ok _) = values []
+done_reply (Err why) = refusal (number_of why)
 
 -- A sealed block's base, width and size.
 abbrev pub sealing_reply : Result Sealed Refusal → Reply
 sealing_reply (Ok s) = values (s.base ∷ s.width ∷ s.size ∷ [])
 sealing_reply (Err why) = refusal (number_of why)
-
--- A call that changes a store gives no value.
-abbrev pub done_reply : Result (Unit {0}) Refusal → Reply
-done_reply (Ok _) = values []
-done_reply (Err why) = refusal (number_of why)
-
--- How many values a store has accepted.
-abbrev pub counted_reply : Result ℕ Refusal → Reply
-counted_reply (Ok n) = values (n ∷ [])
-counted_reply (Err why) = refusal (number_of why)
 
 -- ---- with what was lent
 
@@ -86,10 +71,10 @@ abbrev pub emits : ℕ → List ℕ → Answer
 emits n output = answer (values (n ∷ 0 ∷ 0 ∷ [])) output
 
 abbrev pub filled_answer : Range → Answer
-filled_answer r = answer (filled_reply r.answer) r.output
+filled_answer r = answer (done_reply r.answer) r.output
 
 abbrev pub found_answer : Search → Answer
-found_answer s = answer (found_reply s.answer) s.positions
+found_answer s = answer (number_reply s.answer) s.positions
 
 -- A search that found these ids: "at the start of the positions; places past the count stay as they were".
 abbrev pub finds_ids : List ℕ → List ℕ → Answer
@@ -107,4 +92,4 @@ emitted o = wrote (written_reply o.answer) o.output
 
 -- The ids that a search found.
 abbrev pub found : Search → Reply
-found s = wrote (found_reply s.answer) s.positions
+found s = wrote (number_reply s.answer) s.positions

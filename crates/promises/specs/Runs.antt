@@ -1,10 +1,10 @@
 -- The calls that the marked examples speak of, one after the other, each given what the last one left.
-use Rattle.std.specs.Prelude.{ℕ, zero, suc, ◌+◌, List, [], ◌∷◌, ◌++◌, replicate, Ok}
+use Rattle.std.specs.Prelude.{ℕ, zero, suc, ◌+◌, List, [], ◌∷◌, ◌++◌, replicate}
 use Rattle.bitpacker.specs.Packer.{Outcome, outcome, fresh, write_of, flush_of, emitting}
 use Rattle.bitpacker.specs.Run.{go_on}
 use Rattle.block.specs.Block.{entry_width, entry_base}
 use Rattle.blocked_bitpacker.specs.Calls.{Changed, changed, new_of, add_of, flush_of as flushStoreOf, counted_of, get_of}
-use Rattle.promises.specs.Reply.{Reply, values, got_reply, done_reply, counted_reply}
+use Rattle.promises.specs.Reply.{Reply, values, number_reply, done_reply}
 
 -- ---- lists of values
 
@@ -55,10 +55,10 @@ unfoldable pub last_answer : Changed → Reply
 last_answer c = done_reply c.stored.done
 
 unfoldable pub count_in : Changed → Reply
-count_in c = counted_reply (counted_of c.stored.store c.bytes c.entries)
+count_in c = number_reply (counted_of c.stored.store c.bytes c.entries)
 
 unfoldable pub value_in : ℕ → Changed → Reply
-value_in i c = got_reply (get_of c.stored.store i c.bytes c.entries)
+value_in i c = number_reply (get_of c.stored.store i c.bytes c.entries)
 
 -- Of a store with one block: the block's width, the used bytes and the block's base.
 unfoldable pub block_in : Changed → Reply
