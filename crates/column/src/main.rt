@@ -70,7 +70,7 @@ fn answer<O: Write + AsRawFd, E: Write>(
         sixth.text(),
     );
     let status = serve::serve(rt, out, err, asked, path.text());
-    serve::handed_over(rt, out, err, status as u8)
+    serve::handed_over(rt, out, err, status.number())
 }
 
 fn main(rt: HostRuntime) {

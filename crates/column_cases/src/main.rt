@@ -22,7 +22,7 @@ fn say_call<W: Write>(out: &mut W, line: &[u8]) -> std::io::Result<()> {
 
 // `status N`
 fn say_status<W: Write>(out: &mut W, status: Status) -> std::io::Result<()> {
-    let number = status as u8;
+    let number = status.number();
     writeln!(out, "status {number}")
 }
 

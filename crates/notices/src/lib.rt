@@ -1,6 +1,9 @@
 // What the desk's program says when it has no answer: the usage and the refusals, each in one place.
 #![tactic(auto)]
 
+ghost use Rattle.std.specs.Prelude.{◌≡◌};
+ghost use Rattle.notices.specs.Status.{number_of};
+
 mod bytes;
 mod refuse;
 mod usage;
@@ -14,6 +17,15 @@ pub enum Status {
     Answered = 0,
     Refused = 1,
     Usage = 2,
+}
+
+impl Status {
+    // 0, 1 or 2, as the help page has them.
+    pub fn number(self) -> u8
+        ensures { result ≡ number_of self }
+    {
+        self as u8
+    }
 }
 
 // The most values that a column of the program has.

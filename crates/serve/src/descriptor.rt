@@ -1,4 +1,6 @@
 // A writer for a descriptor of which only the number is known: the standard library has none.
+ghost use Rattle.std.specs.Prelude.{◌≡◌};
+
 use std::io::{ErrorKind, Result, Write};
 use std::os::fd::{AsRawFd, RawFd};
 
@@ -21,7 +23,9 @@ impl Write for Descriptor {
 }
 
 impl AsRawFd for Descriptor {
-    fn as_raw_fd(&self) -> RawFd {
+    fn as_raw_fd(&self) -> RawFd
+        ensures { result ≡ self.now.0 }
+    {
         self.0
     }
 }

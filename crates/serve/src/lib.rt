@@ -128,11 +128,11 @@ pub fn handed_over<R: Files, O: AsRawFd, E: io::Write>(
 ) -> u8
     ensures { HandedOver status result }
 {
-    if status != Status::Answered as u8 {
+    if status != Status::Answered.number() {
         return status;
     }
     if kept::is_lost(rt, out) {
-        return notices::unwritable(err) as u8;
+        return notices::unwritable(err).number();
     }
     status
 }
