@@ -1,9 +1,10 @@
 -- Sealing a block: its differences fit the width of its extent, the size is that of its packed bytes, and the bytes with eight zeros after
 -- them stand at the start of the part.
 use Rattle.std.specs.Prelude.{Err, Option, Some, None, unwrap_or}
-use Rattle.std.proofs.Common.{◌≡◌, ℕ, suc, ◌+◌, ◌-◌, ◌*◌, ◌^◌, ◌<◌, ◌≤◌, cond, ltb, List, [], ◌∷◌, ◌++◌, length, get_or, drop, sym, refl, ap, ◌∙◌, subst, ap₂, append_assoc, zero-le, not-suc-le-zero, lt_of_le_of_lt, arith, length-append, length-drop, drop-drop, take_at, drop_at, le-ltb, lt-ltb, le-leb}
+use Rattle.std.proofs.Common.{◌≡◌, ℕ, suc, ◌+◌, ◌-◌, ◌*◌, ◌^◌, ◌<◌, ◌≤◌, cond, ltb, List, [], ◌∷◌, ◌++◌, length, get_or, drop, set, sym, refl, ap, ◌∙◌, subst, ap₂, append_assoc, zero-le, not-suc-le-zero, lt_of_le_of_lt, arith, length-append, length-drop, drop-drop, take_at, drop_at, le-ltb, lt-ltb, le-leb}
 use borrow.Author.Tests.{lt-leb}
 use lib.ListN.{length-map}
+use lib.Seq.{sets-eq}
 use borrow.Rule.Slice.PartMut.{put_mid}
 use Rattle.bit_rule.specs.Bytes.{bytes_for}
 use Rattle.bit_rule.specs.Stream.{Piece, total_bits, stream_bytes, Fit, of_width}
@@ -85,6 +86,12 @@ fits_width low high vs extent word =
 pub eight_zeros_put : (bytes start : List ℕ) → 8 ≤ length bytes → start ≡ eight_zeros → start ++ drop 8 bytes ≡ cleared_of bytes
 unfolding cleared_of
 eight_zeros_put bytes start room is = simp (le-leb 8 (length bytes) room) (ap (λ l. l ++ drop 8 bytes) is)
+
+-- where there is room, eight stores are eight zeros in front of what stood behind them
+pub eight_stores : (bytes : List ℕ) → 8 ≤ length bytes
+    → set (set (set (set (set (set (set (set bytes 0 0) 1 0) 2 0) 3 0) 4 0) 5 0) 6 0) 7 0 ≡ cleared_of bytes
+unfolding cleared_of
+eight_stores bytes room = simp (le-leb 8 (length bytes) room) (sets-eq eight_zeros bytes 0 room)
 
 pub left_alone : (bytes : List ℕ) → length bytes < 8 → bytes ≡ cleared_of bytes
 unfolding cleared_of

@@ -45,6 +45,7 @@ fn pack(values: &[u64], base: u64, width: u8, output: &mut [u8])
 }
 
 // Eight zero bytes at the start of the output.
+#[tactic(auto, using(crate::proofs::SealingLaws::eight_zeros_put, crate::proofs::SealingLaws::left_alone))]
 pub fn clear_eight(output: &mut [u8])
     ensures { output.new ≡ cleared_of output.old }
 {
