@@ -146,7 +146,9 @@ module _ (left : List ℕ) where
       by_line : (q : Result ℕ NumeralError) → read_of l ≡ q → ((lines : ℕ) (h : Held) → HoldsFrom left ls lines h (load_lines left ls lines h))
           → HoldsFrom left (l ∷ ls) lines h (after_line q lines h (load_lines left ls))
       by_line (Ok v) is rest = by_answer v (addLineIn h v).stored.done refl (reads l v is) rest
-      by_line (Err why) is rest = holds_stopped left (l ∷ ls) lines h (NotANumber why)
+      by_line (Err Empty) is rest = holds_stopped left (l ∷ ls) lines h (NotANumber Empty)
+      by_line (Err (NotADigit place b)) is rest = holds_stopped left (l ∷ ls) lines h (NotANumber (NotADigit place b))
+      by_line (Err TooLarge) is rest = holds_stopped left (l ∷ ls) lines h (NotANumber TooLarge)
 
 -- ---- from a new store
 

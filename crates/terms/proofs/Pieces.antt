@@ -65,10 +65,15 @@ module _ (h : Held) (lines : ℕ) (line : Line) (short : lines + 1 < 2 ^ 64) (fi
       stopped (taken (stopped_by (Refused why) here) (addLineIn h v).bytes (addLineIn h v).entries) refl
       ∙ ap₂ (λ bytes entries. ended (loaded_of h.store lines (Some (Refused why))) bytes entries) kept.0 kept.1
 
+  stops : (why : NumeralError) → finish (taken (stopped_by (NotANumber why) here) h.bytes h.entries) ≡ stop (Some (NotANumber why)) lines h
+  stops why = stopped (taken (stopped_by (NotANumber why) here) h.bytes h.entries) refl
+
   said : (q : Result ℕ NumeralError) → finish (said_by (going h lines line) q) ≡ after_line q lines h next
   unfolding said_of
   said (Ok v) = answered v (addLineIn h v).stored.done refl
-  said (Err why) = stopped (taken (stopped_by (NotANumber why) here) h.bytes h.entries) refl
+  said (Err Empty) = stops Empty
+  said (Err (NotADigit place b)) = stops (NotADigit place b)
+  said (Err TooLarge) = stops TooLarge
 
 -- ---- at the end of the text
 
