@@ -230,9 +230,9 @@ impl<'a> Lent<'a> {
         requires fine { touched_damaged self.now.store.now self.now.entries.now start end ≡ false }
         ensures { Kept 0 (ids_of self.now.store.now lo hi start end self.now.bytes.now self.now.entries.now) positions.old result positions.new }
     {
-        let last = end.div_ceil(BlockedBitpacker::BLOCK_SIZE);
+        let past = end.div_ceil(BlockedBitpacker::BLOCK_SIZE);
         let mut found = 0;
-        for k in start / BlockedBitpacker::BLOCK_SIZE..last {
+        for k in start / BlockedBitpacker::BLOCK_SIZE..past {
             let from = start.max(BlockedBitpacker::BLOCK_SIZE * k);
             let to = end.min(BlockedBitpacker::BLOCK_SIZE * (k + 1));
             found += self.find_in_stretch(lo, hi, from, to, &mut positions[found..]);
