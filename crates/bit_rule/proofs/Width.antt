@@ -34,6 +34,9 @@ legal_le w h = ⊎_elim (λ low. omega arith) (λ top. omega arith) (legal_cases
 pub legal_low : (w : ℕ) → w ≤ 56 → legal_width w ≡ true
 legal_low w h = rw (le-leb w 56 h) refl
 
+pub legal_top : legal_width 64 ≡ true
+legal_top = refl
+
 -- the digits of n: n < 2 ^ m and 2 ^ m ≤ 2 * n + 1
 pub record Digits (n m : ℕ) : Type 0 where
   pub below : n < 2 ^ m

@@ -5,17 +5,19 @@ use mathlib.Core.Path.{◌≡◌, refl, sym, ap, ap₂, ◌∙◌, subst, subst�
 use mathlib.Core.Logic.{⊎_elim}
 use mathlib.Core.Bool.{Bool, true, false, not, ◌||◌, true≢false}
 use mathlib.Core.List.{List, ◌++◌}
-use Prim.Native.Nat.{ℕ, ◌+◌, ◌-◌, ◌*◌, ◌/◌, ◌%◌, ◌^◌, ◌≤◌, ◌<◌}
+use Prim.Native.Nat.{ℕ, suc, ◌+◌, ◌-◌, ◌*◌, ◌/◌, ◌%◌, ◌^◌, ◌≤◌, ◌<◌}
 use native.Mathlib.Nat.{lt_of_lt_of_le, div-eq_of_lt, le-div_iff_mul-le, div-one, add_comm, one-mul, add-zero, mul-mod_left, mod-eq_of_lt, sub-zero}
+use native.Mathlib.Numerals.{add-one}
 use native.Mathlib.Omega.{arith}
 use lib.Dec.{leb, eqb}
 use lib.Arith.{digits_lt}
 use lib.Bits.{bit_or, or_shifted_r}
 use lib.Pow.{pow_pos, pow_mono, pow-add, shl-shr, shr-shr, high, low, mod-pow-add}
-use lib.ListN.{length, drop}
+use lib.ListN.{length, get_or, drop, set}
+use lib.Seq.{set_at, drop-cons, append_snoc}
 use borrow.Author.Tests.{leb-false, le-leb, lt-leb, lt-ltb, le-ltb, ne_eqb}
 use Rattle.bit_rule.specs.Bytes.{bytes_of, bytes_for}
-use Rattle.bit_rule.proofs.Bytes.{bytes_of_cut}
+use Rattle.bit_rule.proofs.Bytes.{length-bytes_of, bytes_of-add, bytes_of_cut}
 use Rattle.bit_rule.proofs.Width.{le_or_lt}
 use Rattle.refusal.specs.declared.Refusal.TheVariants.{NoRoom}
 use Rattle.bitpacker.specs.declared.BitPacker.{BitPacker}
@@ -34,6 +36,16 @@ over_law bits x =
 -- from 64 bits on no u64 reaches 2 ^ bits
 pub none_over : (bits x : ℕ) → x < 2 ^ 64 → 64 ≤ bits → leb (2 ^ bits) x ≡ false
 none_over bits x word wide = lt-leb (2 ^ bits) x (lt_of_lt_of_le word (pow_mono wide))
+
+-- one more byte of x behind the i that stand there already
+pub emit_more : (i x : ℕ) (out : List ℕ) → i < length out → set (emit i x out) i (x / 256 ^ i % 256) ≡ emit (i + 1) x out
+unfolding bytes_of
+emit_more i x out h =
+    let next = x / 256 ^ i % 256 in
+    ap (λ l. set (bytes_of i x ++ l) i next) (drop-cons out i 0 h)
+    ∙ set_at (bytes_of i x) (get_or out i 0) (drop (suc i) out) next i (length-bytes_of i x)
+    ∙ sym (append_snoc (bytes_of i x) next (drop (suc i) out))
+    ∙ ap₂ (λ l k. l ++ drop k out) (sym (bytes_of-add i 1 x)) (sym (add-one i))
 
 -- a packer that is not damaged
 pub record Sound (p : BitPacker) : Type 0 where

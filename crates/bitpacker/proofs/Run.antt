@@ -1,7 +1,7 @@
 -- A whole run leaves exactly the stream's bytes. After the values ps, the packer has emitted `emitted_of ps` bytes, holds what is left of
 -- their stream's number above those (`held_of ps`), and the output begins with the number's bytes (`so_far ps`). One more value moves all
 -- three on by one (`write_more`), and a flush ends the stream (`flush_all`): a loop that packs has these three as its invariant.
-use mathlib.Core.Path.{◌≡◌, sym, ap, ap₂, ◌∙◌, subst}
+use mathlib.Core.Path.{◌≡◌, refl, sym, ap, ap₂, ◌∙◌, subst}
 use mathlib.Core.List.{List, [], ◌∷◌, ◌++◌, append_assoc, append-nil}
 use mathlib.Core.Bool.{false}
 use Prim.Native.Nat.{ℕ, ◌+◌, ◌-◌, ◌*◌, ◌/◌, ◌%◌, ◌^◌, ◌≤◌, ◌<◌}
@@ -41,6 +41,10 @@ ps then x = ps ++ x ∷ []
 pub held_nil : held_of [] ≡ fresh
 unfolding total_bits
 held_nil = ap (λ n. holding 0 (n / 1)) stream_number-nil
+
+pub so_far-nil : (out : List ℕ) → so_far [] out ≡ out
+unfolding total_bits bytes_of
+so_far-nil out = refl
 
 -- what is held lies below the bits that are held
 pub held_sound : (ps : List Piece) → Fit ps → damaged_packer (held_of ps) ≡ false

@@ -3,14 +3,14 @@
 use mathlib.Core.Path.{◌≡◌, refl, sym, ap, ap₂, ◌∙◌, subst}
 use mathlib.Core.Logic.{⊎_elim}
 use mathlib.Core.Bool.{Bool, true, false, cond}
-use mathlib.Core.List.{List, [], ◌∷◌, ◌++◌, map}
+use mathlib.Core.List.{List, [], ◌∷◌, ◌++◌, map, append-nil}
 use Prim.Native.Nat.{ℕ, zero, suc, ◌+◌, ◌-◌, ◌*◌, ◌/◌, ◌%◌, ◌^◌, ◌≤◌, ◌<◌, min}
-use native.Mathlib.Nat.{mul_assoc, add-mul, mul-le-mul, lt_of_lt_of_le, add-zero, suc-mul}
+use native.Mathlib.Nat.{mul_assoc, add-mul, mul-le-mul, lt_of_lt_of_le, mod-eq_of_lt, add_comm, one-mul, add-zero, suc-mul, le_antisymm, mul-le-mul_right}
 use native.Mathlib.Numerals.{add-one}
 use native.Mathlib.Omega.{arith}
 use lib.Dec.{leb}
-use lib.Bits.{bit_and, and_mask}
-use lib.Pow.{pow_mono}
+use lib.Bits.{bit_or, bit_and, or_shifted_r, and_mask}
+use lib.Pow.{pow_mono, pow_pos, pow-lt, shl_exact}
 use lib.ListN.{length, get_or, take, drop, replicate, set, length-append, length-drop, length-replicate}
 use lib.Seq.{set_at, append_snoc, drop-cons, drop-length, take_all}
 use borrow.Author.Tests.{eqb-true, not-false, le-leb, lt-leb}
@@ -24,13 +24,47 @@ use Rattle.refusal.specs.Done.{done}
 use Rattle.bit_rule.specs.Bytes.{AreBytes, number, bytes_for}
 use Rattle.bit_rule.specs.Place.{value_at, values_from}
 use Rattle.bit_rule.proofs.Width.{le_or_lt, legal_le}
-use Rattle.bit_rule.proofs.Bytes.{number_append, window_word}
-use Rattle.bit_rule.proofs.Place.{bits_at_load, legal_span, length-values_from, values_from_then, value_at-lt}
+use Rattle.bit_rule.proofs.Bytes.{pow_bytes, number_lt, number_append, window_word}
+use Rattle.bit_rule.proofs.Place.{bits_at_load, drop_are_bytes, legal_span, length-values_from, values_from_then, value_at-lt}
 use Rattle.bitunpacker.specs.declared.BitUnpacker.{BitUnpacker}
 use Rattle.bitunpacker.specs.Parts.{checked}
-use Rattle.bitunpacker.specs.Unpacker.{bad_width, damaged_mask, Sound}
+use Rattle.bitunpacker.specs.Unpacker.{mask_of, bad_width, damaged_mask, Sound}
 
 -- ---- the load
+
+-- a byte put above k bits
+or_byte : (k lo b : ℕ) → lo < 2 ^ k → b < 256 → k + 8 ≤ 64 → bit_or lo ((b * 2 ^ k) % 2 ^ 64) ≡ lo + b * 2 ^ k
+or_byte k lo b below byte room =
+    ap (bit_or lo) (shl_exact 8 k 64 byte (omega arith)) ∙ or_shifted_r b k lo below ∙ add_comm (b * 2 ^ k) lo
+
+module _ (b₀ b₁ b₂ b₃ b₄ b₅ b₆ b₇ : ℕ)
+    (h₀ : b₀ < 256) (h₁ : b₁ < 256) (h₂ : b₂ < 256) (h₃ : b₃ < 256) (h₄ : b₄ < 256) (h₅ : b₅ < 256) (h₆ : b₆ < 256) (h₇ : b₇ < 256) where
+  pub word_of_bytes :
+      bit_or
+      (bit_or
+      (bit_or
+      (bit_or
+      (bit_or (bit_or (bit_or b₀ ((b₁ * 2 ^ 8) % 2 ^ 64)) ((b₂ * 2 ^ 16) % 2 ^ 64)) ((b₃ * 2 ^ 24) % 2 ^ 64))
+      ((b₄ * 2 ^ 32) % 2 ^ 64))
+      ((b₅ * 2 ^ 40) % 2 ^ 64))
+      ((b₆ * 2 ^ 48) % 2 ^ 64))
+      ((b₇ * 2 ^ 56) % 2 ^ 64)
+      ≡ b₀ + 256 * (b₁ + 256 * (b₂ + 256 * (b₃ + 256 * (b₄ + 256 * (b₅ + 256 * (b₆ + 256 * b₇))))))
+  word_of_bytes =
+      let s₁ = b₀ + b₁ * 2 ^ 8 in
+      let s₂ = s₁ + b₂ * 2 ^ 16 in
+      let s₃ = s₂ + b₃ * 2 ^ 24 in
+      let s₄ = s₃ + b₄ * 2 ^ 32 in
+      let s₅ = s₄ + b₅ * 2 ^ 40 in
+      let s₆ = s₅ + b₆ * 2 ^ 48 in
+      let e₁ = or_byte 8 b₀ b₁ h₀ h₁ (omega arith) in
+      let e₂ = ap (λ x. bit_or x ((b₂ * 2 ^ 16) % 2 ^ 64)) e₁ ∙ or_byte 16 s₁ b₂ (omega arith) h₂ (omega arith) in
+      let e₃ = ap (λ x. bit_or x ((b₃ * 2 ^ 24) % 2 ^ 64)) e₂ ∙ or_byte 24 s₂ b₃ (omega arith) h₃ (omega arith) in
+      let e₄ = ap (λ x. bit_or x ((b₄ * 2 ^ 32) % 2 ^ 64)) e₃ ∙ or_byte 32 s₃ b₄ (omega arith) h₄ (omega arith) in
+      let e₅ = ap (λ x. bit_or x ((b₅ * 2 ^ 40) % 2 ^ 64)) e₄ ∙ or_byte 40 s₄ b₅ (omega arith) h₅ (omega arith) in
+      let e₆ = ap (λ x. bit_or x ((b₆ * 2 ^ 48) % 2 ^ 64)) e₅ ∙ or_byte 48 s₅ b₆ (omega arith) h₆ (omega arith) in
+      let e₇ = ap (λ x. bit_or x ((b₇ * 2 ^ 56) % 2 ^ 64)) e₆ ∙ or_byte 56 s₆ b₇ (omega arith) h₇ (omega arith) in
+      e₇ ∙ omega arith
 
 -- The number that std makes of a word's eight bytes is the one that they stand for.
 pub word_number : (word : List ℕ) → length word ≡ 8 → from_le_bytes w64 word ≡ number word
@@ -70,6 +104,26 @@ tail_number at m bs front short here is =
     ap₂ (λ l k. l ++ drop k (replicate 8 0)) (is ∙ rest) (ap length rest) ∙ ap (λ l. tail ++ l) (drop-replicate n 8 0) in
     let eight : length (tail ++ replicate (8 - n) 0) ≡ 8 = simp (length-append, length-replicate) (omega arith) in
     ap (λ l. from_le_bytes w64 l) word ∙ word_number (tail ++ replicate (8 - n) 0) eight ∙ number-padded tail (8 - n) ∙ ap number (sym (take_all 8 tail few))
+
+-- what is left of some bytes from byte i on is small where few are left
+pub drop-number-lt : (k i : ℕ) (bs : List ℕ) → AreBytes bs → length bs ≤ i + k → number (drop i bs) < 2 ^ (8 * k)
+drop-number-lt k i bs bytes few =
+    lt_of_lt_of_le (subst (λ x. number (drop i bs) < x) (pow_bytes (length (drop i bs))) (number_lt (drop i bs) (drop_are_bytes i bs bytes)))
+    (pow_mono (let left : length (drop i bs) ≤ k = simp length-drop (omega arith) in omega arith))
+
+-- one byte more in front
+pub drop-number-cons : (i : ℕ) (bs : List ℕ) → i < length bs → number (drop i bs) ≡ get_or bs i 0 + 256 * number (drop (suc i) bs)
+unfolding number
+drop-number-cons i bs within = ap number (drop-cons bs i 0 within)
+
+-- ---- the mask
+
+-- a 1 moved up and brought down by one
+pub one_shifted : (w : ℕ) → w < 64 → (1 * 2 ^ w) % 2 ^ 64 ≡ 2 ^ w
+one_shifted w narrow = ap (λ x. x % 2 ^ 64) (one-mul (2 ^ w)) ∙ mod-eq_of_lt (pow-lt narrow)
+
+pub mask_lt : (w : ℕ) → mask_of w < 2 ^ w
+mask_lt w = omega (arith, pow_pos w)
 
 -- ---- the two checks that every call begins with
 
@@ -193,3 +247,18 @@ module _ {A : Type 0} (holding : ℕ → A) (w start : ℕ) (bs : List ℕ) (out
             ∙ sym (append_snoc front (holding v) (drop (suc i) out₀))
             ∙ ap₂ (λ l k. l ++ drop k out₀) (sym one_more) (sym (add-one i));
       }
+
+  pub filling_ends : (out : List A) (at shift i : ℕ) → Filling out at shift i → i ≤ length out₀ → length out₀ ≤ i
+      → out ≡ map holding (values_from w start (length out₀) bs)
+  filling_ends out at shift i all within done =
+      let front = map holding (values_from w start (length out₀) bs) in
+      all.so_far
+      ∙ ap (λ k. map holding (values_from w start k bs) ++ drop k out₀) (le_antisymm within done)
+      ∙ ap (λ l. front ++ l) (drop-length out₀)
+      ∙ append-nil front
+
+  -- the place stays in the data, where the whole stretch does
+  pub filling_inside : (out : List A) (at shift i n len : ℕ) → Filling out at shift i → (start + n) * w ≤ 8 * len → i ≤ n → 8 * at ≤ 8 * len
+  filling_inside out at shift i n len here whole few =
+      let reached : (start + i) * w ≤ (start + n) * w = mul-le-mul_right w (omega arith) in
+      omega (arith, here.place)

@@ -3,7 +3,7 @@ use Rattle.std.specs.Prelude.{Ok}
 use mathlib.Core.Path.{◌≡◌, sym, ap, ap₂, ◌∙◌, subst}
 use mathlib.Core.List.{List, [], ◌++◌, append-nil}
 use Prim.Native.Nat.{ℕ, ◌+◌, ◌-◌, ◌*◌, ◌/◌, ◌%◌, ◌^◌, ◌≤◌, ◌<◌, min, zero-le}
-use native.Mathlib.Nat.{zero-add, add-zero, add-mul, le_trans, lt_of_lt_of_le, mul-le-mul_right}
+use native.Mathlib.Nat.{zero-add, add-zero, add-mul, sub_self, le_trans, lt_of_lt_of_le, mul-le-mul_right}
 use native.Mathlib.Omega.{arith}
 use lib.Pow.{pow_mono}
 use lib.ListN.{length, get_or, take, drop, replicate, length-append, length-drop}
@@ -67,13 +67,13 @@ part_values w k n bs bytes even =
     ∙ ap (λ j. values_from w j n bs) (add-zero k)
 
 -- and they lie in it
-part_inside : (w k n : ℕ) (bs : List ℕ) → k % 8 ≡ 0 → (k + n) * w ≤ 8 * length bs → n * w ≤ 8 * length (rest_from (k / 8 * w) bs)
+pub part_inside : (w k n : ℕ) (bs : List ℕ) → k % 8 ≡ 0 → (k + n) * w ≤ 8 * length bs → n * w ≤ 8 * length (rest_from (k / 8 * w) bs)
 part_inside w k n bs even whole =
     let a = k / 8 * w in
     let left : length (rest_from a bs) ≡ length bs - a = ap length (rest_from_is a bs) ∙ length-drop a bs in
     omega (arith, on_a_byte k w even, add-mul k n w)
 
-part_starts : (w k n : ℕ) (bs : List ℕ) → k % 8 ≡ 0 → (k + n) * w ≤ 8 * length bs → k / 8 * w ≤ length bs
+pub part_starts : (w k n : ℕ) (bs : List ℕ) → k % 8 ≡ 0 → (k + n) * w ≤ 8 * length bs → k / 8 * w ≤ length bs
 part_starts w k n bs even whole = omega (arith, on_a_byte k w even, add-mul k n w)
 
 -- the part of a column's data that starts where value k does: n values more lie in it
@@ -131,6 +131,11 @@ kept_empty found positions none =
       pasted = sym (ap (λ l. pasted_at found l positions) none ∙ paste_none found positions);
     }
 
+pub kept_none : (w lo hi at found : ℕ) (bs positions : List ℕ) → Kept found (ids_of w lo hi at at bs) positions found positions
+unfolding ids_of values_from matching_ids
+kept_none w lo hi at found bs positions =
+    kept_empty found positions (ap (λ n. matching_ids lo hi at (values_from w at n bs)) (sub_self at))
+
 -- ---- values of up to 32 bits
 
 module _ (w : ℕ) (narrow : w ≤ 32) (lo hi from to : ℕ) (bs : List ℕ) where
@@ -150,6 +155,16 @@ module _ (w : ℕ) (narrow : w ≤ 32) (lo hi from to : ℕ) (bs : List ℕ) whe
 pub ids_le : (w lo hi from to : ℕ) (bs : List ℕ) → length (ids_of w lo hi from to bs) ≤ to - from
 unfolding ids_of
 ids_le w lo hi from to bs = omega (arith, matching_le lo hi from (values_from w from (to - from) bs), length-values_from w from (to - from) bs)
+
+-- fewer values lie in the data too
+pub in_data_less : {u : BitUnpacker} {n : ℕ} {bs : List ℕ} (m : ℕ) → m ≤ n → InData u n bs → InData u m bs
+in_data_less {u} m fewer all =
+    record {
+      sound = all.sound;
+      as_bytes = all.as_bytes;
+      few = omega (arith, all.few);
+      inside = le_trans (mul-le-mul_right u.num_bits fewer) all.inside;
+    }
 
 -- ---- ids kept behind those found already
 

@@ -7,7 +7,7 @@ use mathlib.Core.List.{List}
 use native.Mathlib.Nat.{mul-le-mul_right}
 use native.Mathlib.Omega.{arith}
 use lib.Dec.{ltb, eqb}
-use lib.ListN.{length, drop, length-drop}
+use lib.ListN.{length, get_or, drop, length-drop}
 use borrow.Author.Tests.{ltb-false, le-leb, not-false, eqb-true}
 use Rattle.bit_rule.proofs.Width.{legal_le}
 use Rattle.bit_rule.proofs.Parts.{rest_from, rest_from_is}
@@ -27,6 +27,11 @@ use Rattle.blocked_bitpacker.specs.Store.{SoundIn, is_closed, count_of, length_o
 pub offset_small : (k : ℕ) (entries : List ℕ) → entry_offset k entries < 2 ^ 56
 unfolding entry_offset
 offset_small k entries = omega arith
+
+-- a width is a byte
+pub width_small : (k : ℕ) (entries : List ℕ) → get_or entries (k * 2) 0 < 2 ^ 64 → entry_width k entries < 256
+unfolding entry_width
+width_small k entries fits = omega arith
 
 -- ---- how many values a block holds
 
@@ -77,6 +82,9 @@ whole used n k entries fine =
     let w = entry_width k entries in
     let both = neither (not (legal_width w)) (ltb used (entry_offset k entries + bytes_of_block n w)) fine in
     record { legal = not-false _ both.0; ends = ltb-false _ _ both.1 }
+
+pub narrow : {used n k : ℕ} {entries : List ℕ} → Whole used n k entries → entry_width k entries ≤ 64
+narrow block = legal_le _ block.legal
 
 module _ {used n k : ℕ} {entries : List ℕ} (block : Whole used n k entries) (bytes : List ℕ) (there : used ≤ length bytes) where
   pub part_starts : entry_offset k entries ≤ length bytes

@@ -2,15 +2,15 @@
 -- positions stand behind those that were found before.
 use mathlib.Core.Path.{◌≡◌, sym, ap, ap₂, ◌∙◌}
 use mathlib.Core.List.{List, [], ◌∷◌, ◌++◌}
-use Prim.Native.Nat.{ℕ, ◌+◌, ◌-◌, ◌≤◌, ◌<◌}
+use Prim.Native.Nat.{ℕ, ◌+◌, ◌-◌, ◌^◌, ◌≤◌, ◌<◌}
 use native.Mathlib.Nat.{zero-add}
 use native.Mathlib.Numerals.{add-one}
 use native.Mathlib.Omega.{arith}
 use lib.ListN.{length, get_or, take, drop}
-use lib.Seq.{take-suc, drop-drop}
+use lib.Seq.{take-suc, take_all, drop-drop}
 use borrow.Rule.Slice.PartMut.{put_mid}
-use Rattle.bit_rule.specs.Search.{matching_ids}
-use Rattle.bit_rule.proofs.Search.{matching_le, matching_append, paste_first}
+use Rattle.bit_rule.specs.Search.{matching_ids, at_start}
+use Rattle.bit_rule.proofs.Search.{Searched, matching_le, matching_append, paste_first}
 use Rattle.bit_rule.proofs.Parts.{rest_from, rest_from_is, put_rest}
 use Rattle.bitunpacker.specs.Parts.{Kept}
 use Rattle.blocked_bitpacker.specs.declared.BlockedBitpacker.{BlockedBitpacker}
@@ -23,6 +23,17 @@ use Rattle.blocked_bitpacker.proofs.Values.{length-values_of, values_of-add}
 pub take_next : (vs : List ℕ) (i : ℕ) → i < length vs → take (i + 1) vs ≡ take i vs ++ get_or vs i 0 ∷ []
 take_next vs i more = ap (λ n. take n vs) (add-one i) ∙ take-suc vs i 0 more
 
+-- past all values the ids are kept
+pub all_searched : {lo hi first found : ℕ} {positions₀ positions : List ℕ} (vs : List ℕ) (i : ℕ)
+    → Searched lo hi first (take i vs) positions₀ found positions → length vs ≤ i → Kept 0 (matching_ids lo hi first vs) positions₀ found positions
+all_searched {lo} {hi} {first} {positions₀} vs i here done =
+    let ids = matching_ids lo hi first vs in
+    let all : matching_ids lo hi first (take i vs) ≡ ids = ap (matching_ids lo hi first) (take_all i vs done) in
+    record {
+      count = here.counted ∙ ap length all ∙ sym (zero-add (length ids));
+      pasted = here.stored ∙ ap (λ l. at_start l positions₀) all ∙ sym (paste_first ids positions₀);
+    }
+
 -- ---- one stretch after the other
 
 module _ (s : BlockedBitpacker) (lo hi : ℕ) (bytes entries : List ℕ) where
@@ -32,6 +43,10 @@ module _ (s : BlockedBitpacker) (lo hi : ℕ) (bytes entries : List ℕ) where
   kept_few from to kept =
       let values = values_of s bytes entries from (to - from) in
       omega (arith, kept.count, matching_le lo hi from values, length-values_of s bytes entries from (to - from))
+
+  pub stretch_few : {before : List ℕ} {r : ℕ} {after : List ℕ} (from n : ℕ)
+      → Kept 0 (ids_of s lo hi from (from + n) bytes entries) before r after → r ≤ n
+  stretch_few from n kept = omega (arith, kept_few from (from + n) kept)
 
   -- the ids of a stretch and of the next are those of both
   pub ids_add : (from mid to : ℕ) → from ≤ mid → mid ≤ to
@@ -55,6 +70,11 @@ module _ (s : BlockedBitpacker) (lo hi : ℕ) (bytes entries : List ℕ) where
       let empty : to - from ≡ 0 = omega arith in
       ap (λ n. matching_ids lo hi from (values_of s bytes entries from n)) empty
 
+  -- the ids of so many values
+  pub ids_of_lem : (from n : ℕ) → matching_ids lo hi from (values_of s bytes entries from n) ≡ ids_of s lo hi from (from + n) bytes entries
+  unfolding ids_of
+  ids_of_lem from n = ap (λ m. matching_ids lo hi from (values_of s bytes entries from m)) (omega arith)
+
 -- ids at the start of the rest of the positions stand behind those found before
 pub kept_behind : {found r : ℕ} {ids positions ys : List ℕ} → found ≤ length positions → Kept 0 ids (rest_from found positions) r ys
     → Kept found ids positions (found + r) (put_mid found (length positions - found) positions ys)
@@ -67,3 +87,7 @@ kept_behind {found} {ids} {positions} {ys} within kept =
       pasted = put_rest found positions ys within
           ∙ ap (λ l. take found positions ++ l) (kept.pasted ∙ paste_first ids (rest_from found positions) ∙ ap (λ l. ids ++ l) rest);
     }
+
+-- a number of ids and a stretch more
+pub still_fits : {found more : ℕ} → found < 2 ^ 32 → more ≤ 128 → found + more < 2 ^ 64
+still_fits few short = omega arith

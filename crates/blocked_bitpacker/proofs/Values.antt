@@ -83,15 +83,20 @@ module _ (s : BlockedBitpacker) (bytes : List ℕ) {i n : ℕ} {entries : List �
   next_place j h = omega (arith, here.together)
 
   -- the values that wait
-  pub waiting_values_lem : (out : List ℕ) → s.blocks ≤ i / 128 → length out ≡ n → out ≡ take n (drop (i % 128) s.buffer) → out ≡ values_of s bytes entries i n
+  pub waiting_values_lem : (out : List ℕ) → s.blocks ≤ i / 128 → length out ≡ n
+      → ((j : ℕ) → j < n → get_or out j 0 ≡ get_or s.buffer (i % 128 + j) 0) → out ≡ values_of s bytes entries i n
   unfolding value_of
-  waiting_values_lem out behind many is =
+  waiting_values_lem out behind many each =
       values_are s bytes entries i n out many
       (λ j h.
-      ap (λ l. get_or l j 0) is
-      ∙ get_or-take n (drop (i % 128) s.buffer) j 0 h
-      ∙ get_or-drop (i % 128) s.buffer j 0
+      each j h
       ∙ sym (simp (same_block j h, next_place j h, le-ltb (i / 128) s.blocks behind)))
+
+  -- where they are that part of the buffer
+  pub waiting_part : (out : List ℕ) → s.blocks ≤ i / 128 → length out ≡ n → out ≡ take n (drop (i % 128) s.buffer) → out ≡ values_of s bytes entries i n
+  waiting_part out behind many is =
+      waiting_values_lem out behind many
+      (λ j h. ap (λ l. get_or l j 0) is ∙ get_or-take n (drop (i % 128) s.buffer) j 0 h ∙ get_or-drop (i % 128) s.buffer j 0)
 
   -- the values of a block
   within_block : i / 128 < s.blocks → i % 128 + n ≤ length_of_block s (i / 128)
@@ -102,7 +107,7 @@ module _ (s : BlockedBitpacker) (bytes : List ℕ) {i n : ℕ} {entries : List �
       place_below s (i + last) (omega (arith, here.some, here.counted)) (omega (arith, same_block last inside)) in
       omega (arith, subst (λ k. (i + last) % 128 < length_of_block s k) (same_block last inside) below, next_place last inside)
 
-  block_values : (there : i / 128 < s.blocks) → Whole s.used (length_of_block s (i / 128)) (i / 128) entries → s.used ≤ length bytes
+  pub block_values : (there : i / 128 < s.blocks) → Whole s.used (length_of_block s (i / 128)) (i / 128) entries → s.used ≤ length bytes
       → (out : List ℕ) → length out ≡ n
       → read_of (entry_base (i / 128) entries) (entry_width (i / 128) entries) (i % 128) (rest_from (entry_offset (i / 128) entries) bytes) out
       ≡ range done (values_of s bytes entries i n)
@@ -167,6 +172,12 @@ touched_fine s entries start end fine i from to there =
     fine_blocks s entries (start / 128) (min ((end + 127) / 128) s.blocks - start / 128) fine (i / 128) (omega arith) (omega arith)
 
 -- ---- one stretch after the other
+
+-- The next stretch of a range: as many indexes as lie in the block of the first.
+pub stretch_next : (s : BlockedBitpacker) (entries : List ℕ) (start end i left n : ℕ) → touched_damaged s entries start end ≡ false
+    → end ≤ count_of s → start ≤ i → 0 < left → i + left ≡ end → n ≡ min (128 - i % 128) left → Stretch s i n entries
+stretch_next s entries start end i left n fine counted from some to size =
+    record { some = omega arith; together = omega arith; counted = omega arith; fine = touched_fine s entries start end fine i from (omega arith) }
 
 -- The part of a range that lies in one block, which is not past its end.
 pub stretch_of_block : (s : BlockedBitpacker) (entries : List ℕ) (start end k from n : ℕ) → touched_damaged s entries start end ≡ false

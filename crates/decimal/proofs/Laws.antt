@@ -1,13 +1,13 @@
 -- Digits up to a place, and the number that they stand for so far: each digit more is ten times that number and the digit.
-use Rattle.std.proofs.Common.{◌≡◌, ℕ, zero, suc, ◌+◌, ◌*◌, ◌^◌, ◌<◌, ◌≤◌, Bool, true, false, cond, not, leb, Option, Some, None, MatchOption, is_some, unwrap_or, option_and_then, Ok, Err, List, [], ◌∷◌, ◌++◌, length, get_or, take, drop, sym, refl, ap, ◌∙◌, ap₂, ⊎_elim, zero-le, le_refl, add_assoc, mul_assoc, add-mul, le_antisymm, mul-le-mul_left, mul-one, add-one, arith, length-append, take-append-drop, take-suc, pow-add, eq-eqb, ne_eqb, le-leb, leb-true}
+use Rattle.std.proofs.Common.{◌≡◌, ℕ, zero, suc, ◌+◌, ◌*◌, ◌^◌, ◌<◌, ◌≤◌, Bool, true, false, cond, not, leb, Option, Some, None, MatchOption, is_some, unwrap_or, option_and_then, Ok, Err, List, [], ◌∷◌, ◌++◌, length, get_or, take, drop, sym, refl, ap, ◌∙◌, subst, ap₂, ⊎_elim, zero-le, le_refl, add_assoc, mul_assoc, add-mul, le_antisymm, mul-le-mul_left, mul-one, add-one, arith, length-append, take-append-drop, take-suc, pow-add, eq-eqb, ne_eqb, le-leb, leb-false, leb-true}
 use mathlib.Core.Bool.{and-eq-true_iff}
 use native.Mathlib.Nat.{one-le-pow}
-use borrow.Author.Tests.{lt-leb}
+use borrow.Author.Tests.{lt-leb, not-true, not-false}
 use Rattle.std.specs.List.{position_or_len}
 use Rattle.std.specs.Result.{result_ok}
 use Rattle.bit_rule.proofs.Width.{le_or_lt}
 use Rattle.decimal.specs.declared.line.Line.{Line}
-use Rattle.decimal.specs.declared.NumeralError.TheVariants.{NotADigit, TooLarge}
+use Rattle.decimal.specs.declared.NumeralError.TheVariants.{Empty, NotADigit, TooLarge}
 use Rattle.decimal.specs.Digits.{is_digit, digit_of, first_other, numeral, append_of}
 use Rattle.decimal.specs.Line.{if_it_fits, wrong_line, cr_line, digit_line, byte_of, ended_of}
 
@@ -44,6 +44,25 @@ range_of_digit b digit =
 
 pub digit_range : (text : List ℕ) (i : ℕ) → i < first_other text → (48 ≤ get_or text i 0) × (get_or text i 0 ≤ 57)
 digit_range text i below = range_of_digit (get_or text i 0) (digit_below text i below)
+
+-- one digit more
+pub other_more : (text : List ℕ) (i : ℕ) → i ≤ first_other text → i < length text → is_digit (get_or text i 0) ≡ true → i + 1 ≤ first_other text
+unfolding first_other
+other_more [] i from within digit = absurd (omega arith)
+other_more (b ∷ bs) zero from within digit = subst (λ t. 1 ≤ cond t (suc (first_other bs)) 0) (sym digit) (omega arith)
+other_more (b ∷ bs) (suc i) from within digit = by_digit (is_digit b) from (λ f. other_more bs i f (omega arith) digit)
+  where
+    by_digit : (t : Bool) → suc i ≤ cond t (suc (first_other bs)) 0 → (i ≤ first_other bs → i + 1 ≤ first_other bs) → suc i + 1 ≤ cond t (suc (first_other bs)) 0
+    by_digit true start more = omega (arith, more (omega arith))
+    by_digit false start more = absurd (omega arith)
+
+-- and here is none
+pub other_here : (text : List ℕ) (i : ℕ) → i ≤ first_other text → is_digit (get_or text i 0) ≡ false → i ≡ first_other text
+other_here text i from other =
+    ⊎_elim (λ there. le_antisymm from there) (λ below. absurd (differ (digit_below text i below))) (le_or_lt (first_other text) i)
+  where
+    differ : is_digit (get_or text i 0) ≡ true → ⊥
+    differ digit = let z : true ≡ false = sym digit ∙ other in let w : ◌≡◌ {A = ℕ} 0 1 = cc in omega arith
 
 -- the first byte that passes the test for a byte that is no digit, or the length
 pub other_is : (text : List ℕ) → position_or_len (λ b. not (is_digit b)) text ≡ first_other text
@@ -106,6 +125,55 @@ pub append_too_large : (value b : ℕ) → is_digit b ≡ true → 2 ^ 64 ≤ va
 unfolding append_of
 append_too_large value b digit large = simp (digit, le-leb (2 ^ 64) (value * 10 + digit_of b) large)
 
+-- and what is known where it was answered
+pub record Appended (value b n : ℕ) : Type 0 where
+  pub digit : is_digit b ≡ true
+  pub number : value * 10 + digit_of b ≡ n
+  pub fits : n < 2 ^ 64
+
+pub appended : (value b n : ℕ) → append_of value b ≡ Ok n → Appended value b n
+unfolding append_of
+appended value b n is = by_tests (not (is_digit b)) (leb (2 ^ 64) (value * 10 + digit_of b)) refl refl is
+  where
+    by_tests : (o l : Bool) → not (is_digit b) ≡ o → leb (2 ^ 64) (value * 10 + digit_of b) ≡ l
+        → cond o (Err (NotADigit 0 b)) (cond l (Err TooLarge) (Ok (value * 10 + digit_of b))) ≡ Ok n
+        → Appended value b n
+    by_tests true l o_is l-is h = absurd (let z : ◌≡◌ {A = ℕ} 0 1 = cc in omega arith)
+    by_tests false true o_is l-is h = absurd (let z : ◌≡◌ {A = ℕ} 0 1 = cc in omega arith)
+    by_tests false false o_is l-is h =
+        let same : value * 10 + digit_of b ≡ n = cc in
+        record { digit = not-false _ o_is; number = same; fits = omega (arith, leb-false (2 ^ 64) (value * 10 + digit_of b) l-is) }
+
+pub appended_too_large : (value b : ℕ) → append_of value b ≡ Err TooLarge → (is_digit b ≡ true) × (2 ^ 64 ≤ value * 10 + digit_of b)
+unfolding append_of
+appended_too_large value b is = by_tests (not (is_digit b)) (leb (2 ^ 64) (value * 10 + digit_of b)) refl refl is
+  where
+    by_tests : (o l : Bool) → not (is_digit b) ≡ o → leb (2 ^ 64) (value * 10 + digit_of b) ≡ l
+        → cond o (Err (NotADigit 0 b)) (cond l (Err TooLarge) (Ok (value * 10 + digit_of b))) ≡ Err TooLarge
+        → (is_digit b ≡ true) × (2 ^ 64 ≤ value * 10 + digit_of b)
+    by_tests true l o_is l-is h = absurd (let z : ◌≡◌ {A = ℕ} 0 1 = cc in omega arith)
+    by_tests false true o_is l-is h = (not-false _ o_is, leb-true (2 ^ 64) (value * 10 + digit_of b) l-is)
+    by_tests false false o_is l-is h = absurd (let z : ◌≡◌ {A = ℕ} 0 1 = cc in omega arith)
+
+pub appended_no_digit : (value b k c : ℕ) → append_of value b ≡ Err (NotADigit k c) → is_digit b ≡ false
+unfolding append_of
+appended_no_digit value b k c is = by_tests (not (is_digit b)) (leb (2 ^ 64) (value * 10 + digit_of b)) refl is
+  where
+    by_tests : (o l : Bool) → not (is_digit b) ≡ o
+        → cond o (Err (NotADigit 0 b)) (cond l (Err TooLarge) (Ok (value * 10 + digit_of b))) ≡ Err (NotADigit k c) → is_digit b ≡ false
+    by_tests true l o_is h = not-true _ o_is
+    by_tests false true o_is h = absurd (let z : ◌≡◌ {A = ℕ} 0 1 = cc in omega arith)
+    by_tests false false o_is h = absurd (let z : ◌≡◌ {A = ℕ} 0 1 = cc in omega arith)
+
+pub appended_never_empty : (value b : ℕ) → append_of value b ≡ Err Empty → ⊥
+unfolding append_of
+appended_never_empty value b is = by_tests (not (is_digit b)) (leb (2 ^ 64) (value * 10 + digit_of b)) is
+  where
+    by_tests : (o l : Bool) → cond o (Err (NotADigit 0 b)) (cond l (Err TooLarge) (Ok (value * 10 + digit_of b))) ≡ Err Empty → ⊥
+    by_tests true l h = let z : ◌≡◌ {A = ℕ} 0 1 = cc in omega arith
+    by_tests false true h = let z : ◌≡◌ {A = ℕ} 0 1 = cc in omega arith
+    by_tests false false h = let z : ◌≡◌ {A = ℕ} 0 1 = cc in omega arith
+
 -- what is appended is a number where it fits
 pub appended_is : (value b : ℕ) → is_digit b ≡ true → result_ok (append_of value b) ≡ if_it_fits (value * 10 + digit_of b)
 unfolding append_of
@@ -149,3 +217,15 @@ module _ (l : Line) (b : ℕ) (right : is_some l.wrong ≡ false) where
 pub ended_wrong : (l : Line) → is_some l.wrong ≡ true → ended_of l ≡ Err (NotADigit l.digits (unwrap_or l.wrong 0))
 unfolding ended_of
 ended_wrong l wrong = simp wrong
+
+pub ended_empty : (l : Line) → is_some l.wrong ≡ false → l.digits ≡ 0 → ended_of l ≡ Err Empty
+unfolding ended_of
+ended_empty l right none = simp (right, eq-eqb l.digits 0 none)
+
+pub ended_too_large : (l : Line) → is_some l.wrong ≡ false → (l.digits ≡ 0 → ⊥) → l.value ≡ None → ended_of l ≡ Err TooLarge
+unfolding ended_of
+ended_too_large l right some large = simp (right, ne_eqb l.digits 0 some, large)
+
+pub ended_number : (l : Line) (n : ℕ) → is_some l.wrong ≡ false → (l.digits ≡ 0 → ⊥) → l.value ≡ Some n → ended_of l ≡ Ok n
+unfolding ended_of
+ended_number l n right some is = simp (right, ne_eqb l.digits 0 some, is)

@@ -1,12 +1,13 @@
 -- A search over any two numbers, by one over ids of 32 bits: an empty range finds nothing wherever it lies, and a range that ends past every
--- store's count is refused wherever it starts.
-use Rattle.std.specs.Prelude.{Err}
-use mathlib.Core.Path.{◌≡◌, refl}
-use mathlib.Core.Bool.{Bool, true, false}
+-- store's count is refused wherever it starts. And what is asked for depends on what was read alone.
+use Rattle.std.specs.Prelude.{Err, Option, Result, is_some, unwrap_or}
+use mathlib.Core.Path.{◌≡◌, refl, sym, ap, ◌∙◌}
+use mathlib.Core.Bool.{Bool, true, false, cond}
 use mathlib.Core.List.{List}
 use mathlib.Core.Logic.{◌⊎◌, inl, inr, ⊎_elim}
 use Prim.Native.Nat.{ℕ, ◌-◌, ◌^◌, ◌≤◌, ◌<◌}
 use native.Mathlib.Omega.{arith}
+use lib.Dec.{eqb}
 use lib.ListN.{length}
 use borrow.Author.Tests.{le-leb, lt-leb, lt-ltb}
 use Rattle.blocked_bitpacker.specs.declared.BlockedBitpacker.{BlockedBitpacker}
@@ -17,6 +18,12 @@ use Rattle.blocked_bitpacker.specs.Calls.{counted_of, search_of}
 use Rattle.blocked_bitpacker.proofs.Judged.{judged}
 use Rattle.blocked_bitpacker.proofs.Values.{count_small}
 use Rattle.blocked_bitpacker.proofs.Counting.{not_counted as refused-count}
+use Rattle.desk.specs.declared.words.Fault.{Fault}
+use Rattle.desk.specs.declared.words.Fault.TheVariants.{TooLong, Missing}
+use Rattle.desk.specs.declared.words.Request.{Request}
+use Rattle.desk.specs.declared.words.Verb.{Verb}
+use Rattle.desk.specs.declared.words.Word.TheVariants.{Verb as theVerb}
+use Rattle.desk.specs.Words.{verb_of, request_by, request_of}
 
 true_or_false : (t : Bool) → (t ≡ true) ⊎ (t ≡ false)
 true_or_false true = inl refl
@@ -43,3 +50,27 @@ module _ (s : BlockedBitpacker) (lo hi : ℕ) (bytes entries positions : List �
       → search (Err why) positions ≡ search_of s lo hi 0 end bytes entries positions
   unfolding search_of
   not_counted why end is = let said = refused-count s bytes entries why is in simp (said.0, said.1)
+
+-- ---- what is asked for, from the parts that were read
+
+module _ (count : ℕ) (long : Option ℕ) (word third fourth fifth sixth : List ℕ) {verb : Option Verb} (is : verb ≡ verb_of word) where
+  pub asked_by : cond (is_some long) (Err (TooLong (unwrap_or long 0))) (cond (eqb count 0) (Err (Missing theVerb)) (request_by verb count third fourth fifth sixth))
+      ≡ request_of count long word third fourth fifth sixth
+  unfolding request_of
+  asked_by =
+      ap
+      (λ v. cond (is_some long) (Err (TooLong (unwrap_or long 0))) (cond (eqb count 0) (Err (Missing theVerb)) (request_by v count third fourth fifth sixth)))
+      is
+
+  -- a fault that was found is what is answered
+  pub wrong_asked : {fault : Fault} → cond (is_some long) (Err (TooLong (unwrap_or long 0))) (cond (eqb count 0) (Err (Missing theVerb)) (request_by verb count third fourth fifth sixth)) ≡ Err fault
+      → Err fault ≡ request_of count long word third fourth fifth sixth
+  wrong_asked wrong = sym wrong ∙ asked_by
+
+  -- and past the first two checks it is what the verb asks for
+  pub right_asked : {request : Result Request Fault} → is_some long ≡ false → eqb count 0 ≡ false → request ≡ request_by verb count third fourth fifth sixth
+      → request ≡ request_of count long word third fourth fifth sixth
+  right_asked short some is-request =
+      is-request
+      ∙ sym (simp (short, some))
+      ∙ asked_by

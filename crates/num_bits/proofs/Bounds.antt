@@ -47,6 +47,11 @@ lowest_le_highest xs low high bounds = let (i, within, is) = bounds.lowest_occur
 
 -- ---- the answer
 
+pub minmax_empty : (xs : List ℕ) → length xs ≡ 0 → minmax_u64 xs ≡ None
+unfolding minmax_u64
+minmax_empty [] none-there = refl
+minmax_empty (x ∷ xs) none-there = absurd (omega arith)
+
 pub minmax_is : (xs : List ℕ) (low high : ℕ) → Extremes ltb xs low high → minmax_u64 xs ≡ Some (low, high)
 unfolding minmax_u64
 minmax_is xs low high extremes = rw (extremes.lowest_is, extremes.highest_is)

@@ -1,18 +1,20 @@
 -- Lowest and highest of those elements of a list that count, as one element more is met: of one that does not count no comparison holds, so that
 -- it changes neither, and any other is one more of them, for which the law of `Laws` is cited. And what the answer is at the two types.
 use Rattle.std.proofs.Common.{◌≡◌, ℕ, suc, ◌+◌, ◌<◌, ◌≤◌, Bool, true, false, not, cond, ltb, List, [], ◌∷◌, ◌++◌, length, get_or, take, refl, sym, ap, ◌∙◌, arith, append-nil, Some, None}
-use mathlib.Core.Bool.{true≢false}
+use mathlib.Core.Bool.{true≢false, false≢true}
 use borrow.Author.Tests.{ltb-false}
+use lib.Ieee.{nan, inf, fin, ne}
+use lib.Ieee.Compare.{differs_from_itself}
 use Rattle.std.specs.Prelude.{Float, is_some}
 use Rattle.std.specs.List.{filter, position, position_or_len}
-use Rattle.std.specs.Float.Ieee.{lt, is_nan}
+use Rattle.std.specs.Float.Ieee.{lt, eq, is_nan}
 use Rattle.std.specs.Option.{unwrap_or}
 use lib.Seq.{take_all}
 use Rattle.std.proofs.lemmas.List.Elements.{filter_more}
 use Rattle.std.proofs.lemmas.List.Quantifiers.{position-Some}
 use Rattle.num_bits.specs.MinMax.{numbers, minmax_of, minmax_u64, minmax_f64}
 use Rattle.num_bits.specs.Order.{Order}
-use Rattle.num_bits.specs.Ranked.{every, no_nan}
+use Rattle.num_bits.specs.Ranked.{every, no_nan, float_order}
 use Rattle.num_bits.proofs.Laws.{AllCount, Extremes, extremes_one, extremes_snoc, false_if_never_true}
 
 module _ {A : Type 0} (counts : A → Bool) where
@@ -83,6 +85,72 @@ module _ {A : Type 0} {counts : A → Bool} (below : A → A → Bool) (order : 
   pub minmax_some : (xs : List A) (low high : A) → Extremes below (filter counts xs) low high → minmax_of below counts xs ≡ Some (low, high)
   unfolding minmax_of
   minmax_some xs low high extremes = rw (extremes.lowest_is, extremes.highest_is)
+
+-- ---- floats
+
+-- a float against itself
+pub equal_is_number : (x : Float) → eq x x ≡ true → is_nan x ≡ false
+unfolding eq is_nan
+equal_is_number nan equal = absurd (false≢true equal)
+equal_is_number (inf s) equal = refl
+equal_is_number (fin s m e) equal = refl
+
+pub unequal_is_nan : (x : Float) → eq x x ≡ false → x ≡ nan
+unfolding ne
+unequal_is_nan x unequal = differs_from_itself x (rw unequal tt)
+
+pub none_below_nan : (x : Float) → lt x nan ≡ false
+unfolding lt
+none_below_nan nan = refl
+none_below_nan (inf s) = refl
+none_below_nan (fin s m e) = refl
+
+-- the numbers of a list, where one float more is met
+numbers_append : (xs ys : List Float) → numbers (xs ++ ys) ≡ numbers xs ++ numbers ys
+unfolding numbers
+numbers_append [] ys = refl
+numbers_append (nan ∷ xs) ys = numbers_append xs ys
+numbers_append (inf s ∷ xs) ys = ap (λ (l : List Float). inf s ∷ l) (numbers_append xs ys)
+numbers_append (fin s m e ∷ xs) ys = ap (λ (l : List Float). fin s m e ∷ l) (numbers_append xs ys)
+
+pub numbers_nan : (xs : List Float) → numbers (xs ++ nan ∷ []) ≡ numbers xs
+unfolding numbers
+numbers_nan xs = numbers_append xs (nan ∷ []) ∙ append-nil (numbers xs)
+
+pub numbers_number : (xs : List Float) (x : Float) → is_nan x ≡ false → numbers (xs ++ x ∷ []) ≡ numbers xs ++ x ∷ []
+unfolding numbers
+numbers_number xs x number = rw (numbers_append xs (x ∷ []), number)
+
+numbers_count : (xs : List Float) → AllCount no_nan (numbers xs)
+unfolding numbers is_nan
+numbers_count [] = tt
+numbers_count (nan ∷ xs) = numbers_count xs
+numbers_count (inf s ∷ xs) = (refl, numbers_count xs)
+numbers_count (fin s m e ∷ xs) = (refl, numbers_count xs)
+
+number_more : (xs : List Float) (x low high : Float)
+    → is_nan x ≡ false
+    → Extremes lt (numbers xs) low high
+    → Extremes lt (numbers (xs ++ x ∷ [])) (cond (lt x low) x low) (cond (lt high x) x high)
+number_more xs x low high number so_far =
+    rw (numbers_number xs x number) (extremes_snoc lt float_order (numbers xs) x low high (numbers_count xs) so_far)
+
+pub numbers_more : (xs : List Float) (x low high : Float)
+    → Extremes lt (numbers xs) low high
+    → Extremes lt (numbers (xs ++ x ∷ [])) (cond (lt x low) x low) (cond (lt high x) x high)
+unfolding lt is_nan
+numbers_more xs nan low high so_far = rw (numbers_nan xs, none_below_nan high) so_far
+numbers_more xs (inf s) low high so_far = number_more xs (inf s) low high refl so_far
+numbers_more xs (fin s m e) low high so_far = number_more xs (fin s m e) low high refl so_far
+
+-- the answer, from the numbers of the list
+pub minmax_no_number : (xs : List Float) → numbers xs ≡ [] → minmax_f64 xs ≡ None
+unfolding minmax_f64
+minmax_no_number xs none-there = rw none-there
+
+pub minmax_numbers : (xs : List Float) (low high : Float) → Extremes lt (numbers xs) low high → minmax_f64 xs ≡ Some (low, high)
+unfolding minmax_f64
+minmax_numbers xs low high extremes = rw (extremes.lowest_is, extremes.highest_is)
 
 -- ---- the answer at the two types
 

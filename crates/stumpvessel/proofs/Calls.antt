@@ -3,26 +3,52 @@ use Rattle.std.specs.Prelude.{Ok, Err, Result}
 use Rattle.std.specs.Int.{to_le_bytes, w64}
 use Rattle.std.specs.Simd.{first_chunks}
 use mathlib.Core.Path.{◌≡◌, refl, sym, ap, ap₂, ◌∙◌}
+use mathlib.Core.Logic.{⊎_elim}
 use mathlib.Core.Bool.{Bool, true, false, not, cond}
 use mathlib.Core.List.{List, ◌++◌}
-use Prim.Native.Nat.{ℕ, ◌*◌, ◌/◌, ◌%◌, ◌≤◌, ◌<◌}
+use Prim.Native.Nat.{ℕ, ◌+◌, ◌*◌, ◌/◌, ◌%◌, ◌^◌, ◌≤◌, ◌<◌}
 use native.Mathlib.Omega.{arith}
 use lib.Dec.{eqb}
 use lib.ListN.{length, drop}
 use borrow.Author.Tests.{le-ltb, lt-ltb, lt-leb, le-leb, eq-eqb}
-use Rattle.bit_rule.specs.Bytes.{AreBytes, bytes_for}
+use Rattle.bit_rule.specs.Bytes.{AreBytes, bytes_of, bytes_for}
 use Rattle.bit_rule.specs.Stream.{of_width, stream_bytes}
 use Rattle.bit_rule.specs.Place.{value_at, lies_in}
 use Rattle.bit_rule.proofs.Bytes.{length-bytes_of, word_bytes}
 use Rattle.bit_rule.proofs.Stream.{length-stream_bytes}
+use Rattle.bit_rule.proofs.Width.{le_or_lt}
 use Rattle.refusal.specs.declared.Refusal.{Refusal}
 use Rattle.refusal.specs.declared.Refusal.TheVariants.{BadWidth, TooWide, OutOfData, NoRoom}
+use Rattle.refusal.specs.Number.{number_of}
+use Rattle.bitpacker.specs.declared.Written.{Written}
+use Rattle.bitpacker.specs.Packer.{fresh, damaged_packer, written, write_of}
 use Rattle.bitpacker.proofs.Run.{packed}
 use Rattle.bitunpacker.specs.declared.BitUnpacker.{BitUnpacker}
 use Rattle.bitunpacker.specs.Unpacker.{mask_of, new_of, get_of}
 use Rattle.block.proofs.Reading.{new_says}
 use Rattle.stumpvessel.specs.Host.{Answered, answered, refuses, words_of, any_too_wide, pack_list_of, put_of, read_of}
 use Rattle.stumpvessel.proofs.Words.{numbers_of, length-numbers_of, chunks_are_words}
+
+-- ---- a value of 64 bits
+
+abbrev number_in : Result Written Refusal → ℕ
+number_in (Ok written) = 0
+number_in (Err why) = number_of why
+
+abbrev pub numbered : Result Written Refusal → List ℕ → Answered
+numbered r out = answered (number_in r) out
+
+-- a packer that holds nothing emits all of it at once
+pub put_law : (v : ℕ) (out : List ℕ) → v < 2 ^ 64 → numbered (write_of fresh v 64 out).answer (write_of fresh v 64 out).output ≡ put_of v out
+unfolding write_of written damaged_packer put_of
+put_law v out word =
+    let whole : 0 + v * 2 ^ 0 ≡ v = omega arith in
+    simp (lt-leb (2 ^ 64) v word)
+    (⊎_elim
+    (λ room.
+    simp (le-ltb (length out) 8 room)
+    (ap (answered 0) (ap₂ (λ x n. bytes_of 8 x ++ drop n out) whole (sym (length-bytes_of 8 v)))))
+    (λ short. simp (lt-ltb (length out) 8 short)) (le_or_lt 8 (length out)))
 
 -- ---- a value's eight bytes
 

@@ -17,6 +17,7 @@ use Rattle.terms.specs.declared.Loading.{Loading}
 use Rattle.terms.specs.Loading.{trouble_of, loading_of, stopped_by, answered_by, Taken, taken, said_of, next_of, bytes_of, begin_of, Ended, ended, loaded_of, ended_with, nothing_read, end_of}
 use Rattle.terms.specs.Text.{lines_of, rest_of, stop, without_end, after_answer, after_line, load_lines, on_new, load_of, joined, pieces_of, start_of, ending_of, ThePiecesMakeTheText}
 use Rattle.terms.proofs.Settled.{ends_after, ends_as_stopped}
+use Rattle.terms.proofs.Laws.{past_line}
 use Rattle.terms.proofs.Adding.{addLineIn, refused_keeps}
 use Rattle.terms.proofs.Lines.{NoFeed, no_feed_more, first_line, no_line, all_rest, rest_behind}
 
@@ -98,11 +99,6 @@ something_read : (l : Line) (b : ℕ) (bs : List ℕ) → l.digits + length (b �
 unfolding lineBytesOf
 something_read l b [] few = (something_known l b (omega arith)).0
 something_read l b (c ∷ cs) few = something_read (byte_of l b) c cs (omega (arith, (something_known l b (omega arith)).1))
-
--- where something was read of a line, two of the checks do not hold
-past_line : {A : Type 0} (a b rest : A) (troubled nothing none : Bool) → troubled ≡ false → nothing ≡ false
-    → cond troubled a (cond (nothing && none) b (cond nothing a rest)) ≡ rest
-past_line a b rest troubled nothing none going something = simp (going, something)
 
 -- what a line without its end comes to
 module _ (h : Held) (lines : ℕ) (line : Line) (read : nothing_read line ≡ false) where

@@ -1,12 +1,12 @@
--- Values that wait are copied, and those of a block are read from the part at its offset (`waiting_values_lem`, `block_read`).
+-- Values that wait are copied, and those of a block are read from the part at its offset (`waiting_part`, `block_read`).
 use Rattle.std.proofs.Common.{◌%◌, take, drop, refl, ap, ap₂, ◌∙◌, arith}
 use Rattle.blocked_bitpacker.proofs.ReadingLaws.{whole, part_starts}
-use Rattle.blocked_bitpacker.proofs.Values.{waiting_values_lem, block_read}
+use Rattle.blocked_bitpacker.proofs.Values.{waiting_part, block_read}
 use Rattle.blocked_bitpacker.proofs.reading.Lent.read_stretch.Goals as goal
 
 pub returns-then-self-k : goal.returns-then-self-k
 returns-then-self-k c =
-    waiting_values_lem c.args.self.now.store.now c.args.self.now.bytes.now c.requires _ c.if-self-k.true c.copy_from_slice.ensures.len
+    waiting_part c.args.self.now.store.now c.args.self.now.bytes.now c.requires _ c.if-self-k.true c.copy_from_slice.ensures.len
     (c.copy_from_slice.ensures.after ∙ ap₂ (λ n l. take n (drop (c.args.idx % 128) l)) (omega arith) c.places.ensures.same)
 
 pub slice_bounds-bytes-count : goal.slice_bounds-bytes-count
