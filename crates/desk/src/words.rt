@@ -1,5 +1,6 @@
 // What the words behind the program's name ask for, or the first that is wrong or missing.
-ghost use Rattle.std.specs.Prelude.{◌≡◌};
+ghost use Rattle.std.specs.Prelude.{◌≡◌, Some};
+ghost use Rattle.desk.specs.Sentences.{name_of, sentence_of};
 ghost use Rattle.desk.specs.Words.{verb_of, number_of, alone_of, show_of, get_of, interval_of, range_of, list_of, request_of};
 
 use std::error::Error;
@@ -31,6 +32,8 @@ pub enum Fault {
 
 // The word by its number, and by its name on the page where it has one.
 impl fmt::Display for Word {
+    ghost output = { λ word. Some (name_of word) };
+
     fn fmt<W: fmt::Write>(&self, f: &mut fmt::Formatter<W>) -> fmt::Result {
         f.write_str(match self {
             Word::Verb => "word 1",
@@ -46,6 +49,8 @@ impl fmt::Display for Word {
 
 // Which word is wrong, and what to do about it.
 impl fmt::Display for Fault {
+    ghost output = { λ fault. Some (sentence_of fault) };
+
     fn fmt<W: fmt::Write>(&self, f: &mut fmt::Formatter<W>) -> fmt::Result {
         match self {
             Fault::TooLong(number) => write!(f, "word {number} is longer than 4096 bytes"),

@@ -1,7 +1,7 @@
 // Refusals: `refused NUMBER NAME: FILE: what is wrong, and what to do`. Numbers to 12 are the papers'; those from 20 on are the program's own.
-ghost use Rattle.std.specs.Prelude.{◌≡◌};
+ghost use Rattle.std.specs.Prelude.{◌≡◌, Some};
 ghost use Rattle.std.specs.IoError.{raw_os_error};
-ghost use Rattle.notices.specs.FileError.{IsTold};
+ghost use Rattle.notices.specs.FileError.{IsTold, sentence_of};
 ghost use Rattle.notices.specs.declared.Status.TheVariants.{Refused};
 ghost use Rattle.notices.specs.declared.refuse.NoAnswer.TheVariants.{File, NotWritten};
 
@@ -41,7 +41,10 @@ impl From<io::Error> for FileError {
     }
 }
 
+// What is wrong, and what to do about it.
 impl fmt::Display for FileError {
+    ghost output = { λ why. Some (sentence_of why) };
+
     fn fmt<W: fmt::Write>(&self, f: &mut fmt::Formatter<W>) -> fmt::Result {
         f.write_str(match self {
             FileError::Missing => "there is no such file; check its name",
