@@ -1,8 +1,8 @@
 -- A number written in decimal, as the toolchain's `io::decimal` writes it: the fewest digits, the most significant first. What is written is
 -- read as the number; and what is read, written with as many digits as the text has, is the text, zeros in front included.
--- A number is shown by `{}` of a format, as the programs print it: `decimal n`, by the toolchain's `Display` of `u32`, `u64` and `usize`. That
--- is what `io::decimal` writes; it is read as the number; and a text that is read, with no zero in front that it could do without, is what is
--- shown of its number.
+-- A number is shown by `{}` of a format, as in the rows that `./column` prints: `decimal n`, by the toolchain's `Display` of the unsigned
+-- types. That is what `io::decimal` writes; it is read as the number; and a text that is read, with no zero in front that it could do without,
+-- is what is shown of its number.
 use Rattle.std.specs.Prelude.{◌≡◌, ℕ, ◌^◌, ◌<◌, List, length, Ok, decimal}
 use Rattle.io.specs.Digits.{last_digits, IsDigitCount}
 use Rattle.decimal.specs.Digits.{read_of}
