@@ -9,6 +9,8 @@ mod refuse;
 mod usage;
 
 pub use refuse::{FileError, NoAnswer, refused, unwritable};
+use std::fmt::InlineText;
+use std::{fmt, io};
 pub use usage::{help, version, wrong};
 
 // What a call came to, with the number that says it: an answer, a refusal, or words that are no request.
@@ -26,6 +28,16 @@ impl Status {
     {
         self as u8
     }
+}
+
+// The most bytes of what is said in one piece. The longest, of a last line that has no end, has half as many.
+const PIECE: usize = 512;
+
+// Says something in one piece, so that two calls which share a log do not mix within it. What cannot be written is passed over, and
+// what follows is tried all the same.
+fn say<W: io::Write, D: fmt::Display + Drop>(err: &mut W, what: D) {
+    let text = InlineText::<PIECE>::of(what);
+    let _ = err.write_all(text.as_str().as_bytes());
 }
 
 // The most values that a column of the program has.

@@ -6,7 +6,7 @@ ghost use Rattle.notices.specs.declared.Status.TheVariants.{Refused};
 ghost use Rattle.notices.specs.declared.refuse.NoAnswer.TheVariants.{File, NotWritten};
 
 use crate::bytes::OtherByte;
-use crate::{LIMIT, Status};
+use crate::{LIMIT, Status, say};
 use decimal::NumeralError;
 use refusal::Refusal;
 use std::{fmt, io};
@@ -178,24 +178,21 @@ impl fmt::Display for Reason {
     }
 }
 
-// A file's name need not be text, and is written byte for byte.
-fn say<W: io::Write>(err: &mut W, path: &[u8], why: NoAnswer) -> io::Result<()> {
-    let named = Named(why);
-    let reason = Reason(why);
-    write!(err, "refused {named}: ")?;
-    err.write_all(path)?;
-    writeln!(err, "{reason}")
-}
-
-// Says why there is no answer from the file of a name. Where even that cannot be written, the status says it alone.
+// Says why there is no answer from the file of a name, which need not be text and is written byte for byte. Where even that cannot
+// be written, the status says it alone.
 pub fn refused<W: io::Write>(err: &mut W, path: &[u8], why: NoAnswer) -> Status
     ensures { result ≡ Refused }
 {
-    let name: &[u8] = match why {
-        NoAnswer::NotWritten => b"",
-        _ => path,
-    };
-    let _ = say(err, name, why);
+    let named = Named(why);
+    let reason = Reason(why);
+    match why {
+        NoAnswer::NotWritten => say(err, format_args!("refused {named}: {reason}\n")),
+        _ => {
+            say(err, format_args!("refused {named}: "));
+            let _ = err.write_all(path);
+            say(err, format_args!("{reason}\n"));
+        }
+    }
     Status::Refused
 }
 

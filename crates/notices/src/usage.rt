@@ -3,7 +3,7 @@ ghost use Rattle.std.specs.Prelude.{◌≡◌, IfErr};
 ghost use Rattle.notices.specs.declared.Status.TheVariants.{Usage};
 ghost use Rattle.notices.specs.declared.refuse.NoAnswer.TheVariants.{NotWritten};
 
-use crate::{NoAnswer, Status};
+use crate::{NoAnswer, Status, say};
 use desk::Fault;
 use std::io;
 
@@ -53,15 +53,11 @@ pub fn version<W: io::Write>(out: &mut W) -> Result<(), NoAnswer>
     written(out, VERSION)
 }
 
-fn say<W: io::Write>(err: &mut W, fault: Fault) -> io::Result<()> {
-    writeln!(err, "usage: {fault}")?;
-    writeln!(err, "./column help says how it is called")
-}
-
 // Words that are no request, and what is wrong with them. Where even that cannot be written, the status says it alone.
 pub fn wrong<W: io::Write>(err: &mut W, fault: Fault) -> Status
     ensures { result ≡ Usage }
 {
-    let _ = say(err, fault);
+    say(err, format_args!("usage: {fault}\n"));
+    say(err, "./column help says how it is called\n");
     Status::Usage
 }

@@ -55,17 +55,16 @@ fn list_part<W: io::Write>(
     Ok(rows::list(out, column, &positions, count, asked)?)
 }
 
-// Loads the file of a name, and answers from its column. Not inlined: the areas take over a megabyte of the stack, which the
-// requests without a file do not need.
+// Loads a file, and answers from its column. Not inlined, and apart from the opening: the areas take over a megabyte of the stack,
+// which is cleared where they are entered, and the requests without a file, and those of a file that cannot be opened, do not
+// need them.
 #[inline(never)]
-fn from_file<R: Files, F: FnOnce(&Column<'_>) -> Result<(), NoAnswer> + Drop>(
-    rt: &R,
-    path: &[u8],
+fn from_open<I: io::Read + Drop, F: FnOnce(&Column<'_>) -> Result<(), NoAnswer> + Drop>(
+    file: I,
     answer: F,
 ) -> Result<(), NoAnswer>
     requires { F.IsAlwaysCallable answer }
 {
-    let file = file::open(rt, path)?;
     let mut bytes: ByteArea = area();
     let mut entries: EntryArea = area();
     let loaded = file::load(file, &mut bytes, &mut entries)?;
@@ -77,6 +76,17 @@ fn from_file<R: Files, F: FnOnce(&Column<'_>) -> Result<(), NoAnswer> + Drop>(
         bytes: &bytes,
         entries: &entries,
     })
+}
+
+// The same of the file of a name.
+fn from_file<R: Files, F: FnOnce(&Column<'_>) -> Result<(), NoAnswer> + Drop>(
+    rt: &R,
+    path: &[u8],
+    answer: F,
+) -> Result<(), NoAnswer>
+    requires { F.IsAlwaysCallable answer }
+{
+    from_open(file::open(rt, path)?, answer)
 }
 
 fn answer<R: Files, W: io::Write>(
