@@ -30,12 +30,25 @@ pub fn exceeds(x: u64, bits: usize) -> bool
     bits < 64 && x >> bits != 0
 }
 
-// The n lowest bytes of x, least first, at the start of the output.
+// The eight bytes of x, least first, at the start of the output. It compiles to one store.
+fn store_word(x: u64, output: &mut [u8])
+    requires { 8 ≤ length output.old }
+    ensures { output.new ≡ emit 8 x output.old }
+{
+    output[..8].copy_from_slice(&x.to_le_bytes());
+}
+
+// The n lowest bytes of x, least first, at the start of the output. Byte by byte: to copy as many as n says is a call of the C
+// library, with which the functions for C would have to be linked.
 fn store_bytes(x: u64, n: usize, output: &mut [u8])
     requires { (n ≤ 8) × (n ≤ length output.old) }
     ensures { output.new ≡ emit n x output.old }
 {
-    output[..n].copy_from_slice(&x.to_le_bytes()[..n]);
+    let mut rest = x;
+    for place in output[..n].iter_mut() {
+        *place = (rest % 256) as u8;
+        rest /= 256;
+    }
 }
 
 impl BitPacker {
@@ -88,7 +101,7 @@ impl BitPacker {
         if output.len() < 8 {
             return Err(Refusal::NoRoom);
         }
-        store_bytes(word, 8, output);
+        store_word(word, output);
         Ok(Written {
             packer: BitPacker {
                 mini_buffer: val >> 1 >> (63 - held_bits),

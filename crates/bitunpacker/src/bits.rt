@@ -24,15 +24,17 @@ fn load_word(bytes: &[u8], at: usize) -> u64
     u64::from_le_bytes(bytes[at..at + 8].try_into().unwrap())
 }
 
-// What is there of eight bytes near the end, as a number.
+// What is there of eight bytes near the end, as a number. Byte by byte: to copy as many as are there is a call of the C library,
+// which takes longer, and which the functions for C would have to be linked with.
 fn load_tail(bytes: &[u8], at: usize) -> u64
     requires { length bytes.now < at + 8 }
     ensures { result ≡ number (take 8 (drop at bytes.now)) }
 {
-    let tail = &bytes[at.min(bytes.len())..];
-    let mut word = [0; 8];
-    word[..tail.len()].copy_from_slice(tail);
-    u64::from_le_bytes(word)
+    let mut value = 0;
+    for i in (at..bytes.len()).rev() {
+        value = value * 256 + u64::from(bytes[i]);
+    }
+    value
 }
 
 // The bits above `shift` of eight bytes that are there, cut by a mask.
@@ -44,10 +46,7 @@ pub(crate) fn word_at(bytes: &[u8], at: usize, shift: usize, mask: u64) -> u64
     load_word(bytes, at) >> shift & mask
 }
 
-// The same near the end, where a byte that is not there counts as 0. Few values lie there, so it is
-// kept out of the loops that read one value after the other.
-#[cold]
-#[inline(never)]
+// The same near the end, where a byte that is not there counts as 0.
 pub(crate) fn tail_at(bytes: &[u8], at: usize, shift: usize, mask: u64) -> u64
     requires bytes_len_bound { length bytes.now < at + 8 }
     requires shift_bound { shift < 8 }

@@ -63,4 +63,4 @@ returns c =
     (ap (λ w. write_of c.args.self c.args.val w c.args.output.now) (sym c.from-width.ensures)
     ∙ write_room c.args.self _ c.from-width.result c.args.output.now whole narrow over (omega (arith, kept.bits, c.from-width.ensures))
     ∙ written_word c.args.self _ c.from-width.result c.args.output.now kept (leb-false _ _ over) c.if-bits-lt64.false narrow
-    ∙ ap (outcome _) (sym c.store_bytes.ensures))
+    ∙ ap (outcome _) (sym c.store_word.ensures))
