@@ -29,7 +29,20 @@ use Rattle.block.proofs.Reading.{new_says}
 use Rattle.stumpvessel.specs.Host.{Answered, answered, refuses, words_of, any_too_wide, pack_list_of, put_of, read_of}
 use Rattle.stumpvessel.proofs.Words.{numbers_of, length-numbers_of, chunks_are_words}
 
--- ---- a value of 64 bits
+-- ---- a value's eight bytes
+
+module _ (v : ℕ) (out : List ℕ) where
+  pub put_short : length out < 8 → refuses NoRoom out ≡ put_of v out
+  unfolding put_of
+  put_short short = simp (lt-ltb (length out) 8 short)
+
+  pub put_done : (word : List ℕ) → word ≡ to_le_bytes w64 v → 8 ≤ length out → answered 0 (word ++ drop 8 out) ≡ put_of v out
+  unfolding put_of
+  put_done word is room =
+      simp (le-ltb (length out) 8 room)
+      (ap₂ (λ l n. answered 0 (l ++ drop n out)) (is ∙ word_bytes v) (sym (length-bytes_of 8 v)))
+
+-- ---- the same eight bytes, as a packer of 64 bits leaves them
 
 abbrev number_in : Result Written Refusal → ℕ
 number_in (Ok written) = 0
@@ -49,19 +62,6 @@ put_law v out word =
     simp (le-ltb (length out) 8 room)
     (ap (answered 0) (ap₂ (λ x n. bytes_of 8 x ++ drop n out) whole (sym (length-bytes_of 8 v)))))
     (λ short. simp (lt-ltb (length out) 8 short)) (le_or_lt 8 (length out)))
-
--- ---- a value's eight bytes
-
-module _ (v : ℕ) (out : List ℕ) where
-  pub put_short : length out < 8 → refuses NoRoom out ≡ put_of v out
-  unfolding put_of
-  put_short short = simp (lt-ltb (length out) 8 short)
-
-  pub put_done : (word : List ℕ) → word ≡ to_le_bytes w64 v → 8 ≤ length out → answered 0 (word ++ drop 8 out) ≡ put_of v out
-  unfolding put_of
-  put_done word is room =
-      simp (le-ltb (length out) 8 room)
-      (ap₂ (λ l n. answered 0 (l ++ drop n out)) (is ∙ word_bytes v) (sym (length-bytes_of 8 v)))
 
 -- ---- a read
 
