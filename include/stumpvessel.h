@@ -18,7 +18,8 @@
  * functions keep no state: calls on different buffers may run at the same time, and so may calls
  * that share only buffers which all of them read.
  *
- * The archive, libstumpvessel.a, is for x86-64 and the System V calling convention.
+ * The archive, libstumpvessel.a, is for x86-64 and the System V calling convention. It needs no
+ * function from outside, nor the C library.
  */
 #ifndef STUMPVESSEL_H
 #define STUMPVESSEL_H
