@@ -150,17 +150,21 @@ impl Loading {
             return self;
         }
         let mut loading = self;
+        // Apart from the loading, which is a store too: so a byte of a line changes no more than the line.
+        let mut line = self.line;
         for byte in text {
             if *byte == b'\n' {
-                let numeral = loading.line.ended();
-                loading.said(numeral, bytes, entries);
+                loading.line = line;
+                loading.said(line.ended(), bytes, entries);
                 if loading.trouble.is_some() {
                     return loading;
                 }
+                line = loading.line;
             } else {
-                loading.line = loading.line.byte(*byte);
+                line = line.byte(*byte);
             }
         }
+        loading.line = line;
         loading
     }
 
