@@ -55,6 +55,17 @@ pub(crate) fn tail_at(bytes: &[u8], at: usize, shift: usize, mask: u64) -> u64
     load_tail(bytes, at) >> shift & mask
 }
 
+// That, kept out of the loops that read one value after the other: few values lie there, and with it a loop takes more for each.
+#[cold]
+#[inline(never)]
+fn tail_apart(bytes: &[u8], at: usize, shift: usize, mask: u64) -> u64
+    requires bytes_len_bound { length bytes.now < at + 8 }
+    requires shift_bound { shift < 8 }
+    ensures { result ≡ bit_and (number (take 8 (drop at bytes.now)) / 2 ^ shift) mask }
+{
+    tail_at(bytes, at, shift, mask)
+}
+
 // Either of the two, at any place.
 pub(crate) fn bits_at(bytes: &[u8], at: usize, shift: usize, mask: u64) -> u64
     requires { shift < 8 }
@@ -62,7 +73,7 @@ pub(crate) fn bits_at(bytes: &[u8], at: usize, shift: usize, mask: u64) -> u64
 {
     let len = bytes.len();
     if len < 8 || len - 8 < at {
-        return tail_at(bytes, at, shift, mask);
+        return tail_apart(bytes, at, shift, mask);
     }
     word_at(bytes, at, shift, mask)
 }
