@@ -57,7 +57,7 @@ pub fn ranges_of_1000(unpacker: BitUnpacker, data: &[u8], count: u32) -> Result<
     Ok(ranges(unpacker, data, count / 1000, 1000, &mut [0; 1000]))
 }
 
-// Not inlined: the positions take more than a megabyte of the stack, which is cleared where they are entered.
+// Not inlined: the positions take more than a megabyte of the stack, which is cleared where the function begins.
 #[inline(never)]
 pub fn search(unpacker: BitUnpacker, data: &[u8], count: u32) -> Result<u64, Refusal> {
     let mut positions = area::<u32, POSITIONS>(0);

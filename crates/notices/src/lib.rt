@@ -30,7 +30,7 @@ impl Status {
     }
 }
 
-// The most bytes of what is said in one piece. The longest, of a last line that has no end, has half as many.
+// The most bytes of what is said in one piece. The longest has less than half as many.
 const PIECE: usize = 512;
 
 // Says something in one piece, so that two calls which share a log do not mix within it. What cannot be written is passed over, and

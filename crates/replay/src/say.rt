@@ -4,7 +4,7 @@ ghost use Rattle.std.specs.Prelude.{◌<◌, ◌≤◌};
 use refusal::Refusal;
 
 // What is printed gathers on a page of so many bytes: of an answer of some numbers, and of one with an area behind them. (Not
-// `println!`, whose own page has 1,024, with a number put on it by `{:x}`: an answer of 32,768 bytes takes 2.8 times the
+// `println!`, whose own page has 1,024, with a number put on it by `{:x}`: an answer of 32,768 bytes takes five times the
 // instructions so.)
 const SHORT: usize = 128;
 

@@ -56,7 +56,7 @@ fn list_part<W: io::Write>(
 }
 
 // Loads a file, and answers from its column. Not inlined, and apart from the opening: the areas take over a megabyte of the stack,
-// which is cleared where they are entered, and the requests without a file, and those of a file that cannot be opened, do not
+// which is cleared where the function begins, and the requests without a file, and those of a file that cannot be opened, do not
 // need them.
 #[inline(never)]
 fn from_open<I: io::Read + Drop, F: FnOnce(&Column<'_>) -> Result<(), NoAnswer> + Drop>(
